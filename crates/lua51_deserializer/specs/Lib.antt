@@ -1,0 +1,4 @@
+pub mod Range
+pub mod Word
+pub mod Proto
+pub mod Chunk
