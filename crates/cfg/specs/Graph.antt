@@ -1,7 +1,7 @@
 -- The graph of a function without its statements (document 01, 'lifter.rs'): leaders, ranges, block numbers, edges,
 -- entering edges, and the numbers of between blocks.
 use Prim.Native.Nat.{ℕ, zero, suc, _+_, _-_}
-use mathlib.Core.Bool.{Bool, true, not, cond, _&&_, _||_}
+use mathlib.Core.Bool.{Bool, not, cond, _&&_, _||_}
 use mathlib.Core.List.{List, [], _∷_, map}
 use lib.Dec.{ltb, eqb}
 use Rattle.lua51_deserializer.specs.Range.{only, sum, times}

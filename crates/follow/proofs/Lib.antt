@@ -1,0 +1,6 @@
+pub mod Simulation
+pub mod Words
+pub mod Run
+pub mod Ends
+pub mod Agreement
+pub mod Demand
