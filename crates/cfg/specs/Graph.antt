@@ -40,7 +40,7 @@ entryOf p = blockOf p (size p + 1)
 -- the first leader from j on, among k words
 unfoldable pub leaderFrom : Proto → ℕ → ℕ → ℕ
 leaderFrom p zero j = j
-leaderFrom p (suc k) j = cond (leader p j) j (leaderFrom p k (j + 1))
+leaderFrom p (suc k) j = let further = leaderFrom p k (j + 1) in cond (leader p j) j further
 
 -- 'one past the last' word of the range that starts at j
 unfoldable pub past : Proto → ℕ → ℕ
@@ -77,7 +77,7 @@ leaving p i exit = []
 
 -- how many edges of the range whose last word is i go to word t
 unfoldable pub exits : Proto → ℕ → ℕ → ℕ
-exits p t i = cond (leader p (i + 1)) (times t (map (λ e. e .to) (leaving p i (flowAt p i)))) 0
+exits p t i = let to = map (λ e. e .to) (leaving p i (flowAt p i)) in cond (leader p (i + 1)) (times t to) 0
 
 -- how many edges enter the block whose range starts at t, 'counting the entry's edge', which 'leads to block 0'
 unfoldable pub entering : Proto → ℕ → ℕ
@@ -96,7 +96,7 @@ thenOf p i = cond (is p i FORLOOP) (target p i) (i + 1)
 -- 'It goes to the front of the Then block if only one edge enters that block'; 'otherwise into a between block on the Then
 -- edge alone'
 unfoldable pub diverted : Proto → ℕ → Bool
-diverted p i = isLoop p i && not (eqb (entering p (thenOf p i)) 1)
+diverted p i = let alone = eqb (entering p (thenOf p i)) 1 in isLoop p i && not alone
 
 -- the number of the between block of the loop at word i: 'code blocks ascending, entry, betweens by their loop's block'
 unfoldable pub betweenOf : Proto → ℕ → ℕ

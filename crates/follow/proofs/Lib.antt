@@ -1,6 +1,4 @@
 pub mod Simulation
+pub mod Statements
 pub mod Words
 pub mod Run
-pub mod Ends
-pub mod Agreement
-pub mod Demand

@@ -1,5 +1,28 @@
 -- The straight run of the follower of words through a range: it writes what the range's statements do.
-use mathlib.Core.Bool.{Bool}
+use mathlib.Core.Bool.{Bool, true, false, not, cond, _&&_}
+use Rattle.lua51_deserializer.specs.Word.{straight, skip, MOVE, LOADBOOL, GETUPVAL, CLOSURE, numberOf}
+use Rattle.cfg.proofs.Leaders.{Onward, straight-on, skips-none}
+use Rattle.follow.proofs.Words.{capture, loose, carried, loose-opener, loose-user, carried-none, named-is, next-straight, says, quiet-word, others, ordinary}
+use Rattle.follow.proofs.Simulation.{Straight, done, on}
+use Prim.Native.Nat.{ℕ, zero, suc, _+_, _-_, _≤_, _<_}
+use native.Mathlib.Omega.{arith}
+use native.Mathlib.Numerals.{add-one}
+use mathlib.Core.Path.{_≡_, refl, sym, ap, _∙_, subst}
+use mathlib.Core.List.{List, [], _++_, flatMap, append-assoc, append-nil}
+use lib.Dec.{ltb}
+use borrow.Author.Tests.{ltb-true, ltb-false, eqb-true, lt-ltb}
+use Rattle.lua51_deserializer.specs.Proto.{Proto, is, size, capturesOf, opcode, A}
+use Rattle.lua51_lifter.specs.Lift.{pending, statements}
+use Rattle.lua51_lifter.specs.Check.{check, allCaptures, fine, user, opener}
+use Rattle.ast.specs.Statement.{Stmt}
+use Rattle.cfg.specs.Graph.{leader}
+use Rattle.follow.specs.Account.{Action, go}
+use Rattle.follow.specs.WordFollower.{wordStep, at, wordStepFrom, doing}
+use Rattle.lua51_deserializer.proofs.Tests.{and-left, not-is, either-way, and-right, or-cases, clash}
+use Rattle.lua51_deserializer.specs.Range.{over}
+use Rattle.lua51_lifter.proofs.Accepted.{closure-captures, no-user}
+use Rattle.follow.proofs.Statements.{acts, Quiet, acts-append, quiet-append}
+use Rattle.lua51_deserializer.proofs.Table.{flow-test, flow-opcodes, op-is}
 
 -- ------------------------------------------------------------ captures
 
@@ -8,23 +31,26 @@ module _ (p : Proto) where
   unfolding pending
   pending-capture i h = rw (add-one, lt-ltb 0 (pending p i) h)
 
-  pending-after : (i : ℕ) → pending p i ≡ 0 → pending p (i + 1) ≡ cond (eqb (opcode p i) (numberOf CLOSURE)) (capturesOf p i) 0
+  pending-after : (i : ℕ) → pending p i ≡ 0 → pending p (i + 1) ≡ cond (is p i CLOSURE) (capturesOf p i) 0
   unfolding pending
   pending-after i h = rw (add-one, h)
 
-  capture-split : (i m : ℕ) → allCaptures p i m ≡ true → 0 < m → ((eqb (opcode p (i + 1)) (numberOf MOVE) || eqb (opcode p (i + 1)) (numberOf GETUPVAL)) ≡ true) × (leader p (i + 1) ≡ false) × (allCaptures p (i + 1) (m - 1) ≡ true)
+  capture-split : (i m : ℕ) → allCaptures p i m ≡ true → 0 < m → (capture p (i + 1) ≡ true) × (leader p (i + 1) ≡ false) × (allCaptures p (i + 1) (m - 1) ≡ true)
   unfolding allCaptures
   capture-split i zero h l = absurd (omega arith)
   capture-split i (suc m) h l =
-      let g = and-right (eqb (opcode p (i + 1)) (numberOf MOVE) || eqb (opcode p (i + 1)) (numberOf GETUPVAL)) _ h in
-      let e : suc m - 1 ≡ m = omega arith in
-      (and-left (eqb (opcode p (i + 1)) (numberOf MOVE) || eqb (opcode p (i + 1)) (numberOf GETUPVAL)) _ h, not-is (leader p (i + 1)) (and-left (not (leader p (i + 1))) _ g), rw e (and-right (not (leader p (i + 1))) _ g))
+      let both = and-left _ (allCaptures p (i + 1) m) h in
+      let e : suc m - 1 ≡ m = omega arith in (
+        and-left (capture p (i + 1)) _ both,
+        not-is (leader p (i + 1)) (and-right (capture p (i + 1)) _ both),
+        rw e (and-right (capture p (i + 1) && not (leader p (i + 1))) _ h),
+      )
 
   module _ (ok : check p ≡ fine) where
     ahead-none : (i : ℕ) → i < size p → pending p i ≡ 0 → allCaptures p i (pending p (i + 1)) ≡ true
-    ahead-none i lt z = rw (pending-after i z) (opens (eqb (opcode p i) (numberOf CLOSURE)) refl)
+    ahead-none i lt z = rw (pending-after i z) (opens (is p i CLOSURE) refl)
       where
-        opens : (b : Bool) → eqb (opcode p i) (numberOf CLOSURE) ≡ b → allCaptures p i (cond b (capturesOf p i) 0) ≡ true
+        opens : (b : Bool) → is p i CLOSURE ≡ b → allCaptures p i (cond b (capturesOf p i) 0) ≡ true
         opens true e = closure-captures p ok i lt (eqb-true (opcode p i) (numberOf CLOSURE) e)
         opens false e = unfold allCaptures in refl
 
@@ -37,35 +63,30 @@ module _ (p : Proto) where
         rw (pending-capture (suc i) l, ← e) (capture-split i (pending p (i + 1)) (ahead i (omega arith)) (rw e l) .2))
         (λ h. ahead-none (suc i) lt (omega (arith, ltb-false 0 (pending p (suc i)) h)))
 
-    capture : (i : ℕ) → i ≤ size p → 0 < pending p i → ((eqb (opcode p i) (numberOf MOVE) || eqb (opcode p i) (numberOf GETUPVAL)) ≡ true) × (leader p i ≡ false)
-    capture zero le h = absurd (omega (arith, none))
+    captured-word : (i : ℕ) → i ≤ size p → 0 < pending p i → (capture p i ≡ true) × (leader p i ≡ false)
+    captured-word zero le h = absurd (omega (arith, none))
       where
         none : pending p 0 ≡ 0
         none = unfold pending in refl
-    capture (suc i) le h =
+    captured-word (suc i) le h =
         let e : i + 1 ≡ suc i = omega arith in
         let c = capture-split i (pending p (i + 1)) (ahead i (omega arith)) (rw e h) in
         (rw e at (c .0), rw e at (c .1))
 
     -- a leader is no capture
     pub leader-free : (i : ℕ) → i ≤ size p → leader p i ≡ true → pending p i ≡ 0
-    leader-free i le h = either-way (ltb 0 (pending p i)) (λ l. clash h (capture i le (ltb-true 0 (pending p i) l) .1)) (λ l. omega (arith, ltb-false 0 (pending p i) l))
+    leader-free i le h = either-way (ltb 0 (pending p i)) (λ l. clash h (captured-word i le (ltb-true 0 (pending p i) l) .1)) (λ l. omega (arith, ltb-false 0 (pending p i) l))
 
     capture-loose : (i : ℕ) → i ≤ size p → 0 < pending p i → loose (opcode p i) ≡ true
-    capture-loose i le h = or-cases (eqb (opcode p i) (numberOf MOVE)) (eqb (opcode p i) (numberOf GETUPVAL)) (capture i le h .0) (λ e. rw (eqb-true (opcode p i) (numberOf MOVE) e)) (λ e. rw (eqb-true (opcode p i) (numberOf GETUPVAL) e))
+    capture-loose i le h = or-cases (is p i MOVE) (is p i GETUPVAL) (captured-word i le h .0) (λ e. rw (eqb-true (opcode p i) (numberOf MOVE) e)) (λ e. rw (eqb-true (opcode p i) (numberOf GETUPVAL) e))
 
     -- what is neither MOVE nor GETUPVAL is no capture
     pub free : (i : ℕ) → i ≤ size p → (opcode p i ≡ numberOf MOVE → ⊥) → (opcode p i ≡ numberOf GETUPVAL → ⊥) → pending p i ≡ 0
     free i le a b = either-way (ltb 0 (pending p i))
-        (λ l. or-cases (eqb (opcode p i) (numberOf MOVE)) (eqb (opcode p i) (numberOf GETUPVAL)) (capture i le (ltb-true 0 (pending p i) l) .0) (λ e. absurd (a (eqb-true (opcode p i) (numberOf MOVE) e))) (λ e. absurd (b (eqb-true (opcode p i) (numberOf GETUPVAL) e))))
+        (λ l. or-cases (is p i MOVE) (is p i GETUPVAL) (captured-word i le (ltb-true 0 (pending p i) l) .0) (λ e. absurd (a (eqb-true (opcode p i) (numberOf MOVE) e))) (λ e. absurd (b (eqb-true (opcode p i) (numberOf GETUPVAL) e))))
         (λ l. omega (arith, ltb-false 0 (pending p i) l))
 
 -- ------------------------------------------------------------ the run
-
--- from word i control goes on to the next, or past its captures
-pub data Onward (p : Proto) (i : ℕ) : Type 0 where
-  straight-on : flowAt p i ≡ straight → Onward p i
-  skips-none : flowAt p i ≡ skip → eqb (C p i) 0 ≡ true → Onward p i
 
 pub record Ran (p : Proto) (i k j : ℕ) (xs : List Stmt) : Type 0 where
   pub steps : ℕ
@@ -146,7 +167,7 @@ module _ (p : Proto) (ok : check p ≡ fine) where
   pub run : (d i j k : ℕ) → i + d ≡ j → j ≤ size p → (user p i ≡ true → k ≡ A p (i - 1)) → ((m : ℕ) → i ≤ m → m < j → Onward p m) → Ran p i k j (over (statements p) i d)
   unfolding over
   run zero i j k e le keeps all = let z : i ≡ j = omega arith in
-      subst (λ (x : ℕ). Ran p i k x []) z (record { steps = 0; written = []; kept = k; way = done; said = unfold join in sym (append-nil (carried p i)); keeps = keeps; quiet = tt; moves = λ y l. absurd (omega arith) })
+      subst (λ (x : ℕ). Ran p i k x []) z (record { steps = 0; written = []; kept = k; way = done; said = unfold flatMap in sym (append-nil (carried p i)); keeps = keeps; quiet = tt; moves = λ y l. absurd (omega arith) })
   run (suc d) i j k e le keeps all =
       let rest : (kept : ℕ) → (user p (i + 1) ≡ true → kept ≡ A p (i + 1 - 1)) → Ran p (i + 1) kept j (over (statements p) (i + 1) d) = λ kept keeps-it. run d (i + 1) j kept (omega arith) le keeps-it (λ m a b. all m (omega arith) b) in
       either-way (ltb 0 (pending p i))

@@ -1,6 +1,11 @@
 -- One machine follows another: if each step of the first is some unasked steps of the second and then one more that ends alike, every
 -- account of either is a beginning of one of the other's. It knows nothing of Lua.
-use mathlib.Core.Bool.{Bool}
+use mathlib.Core.Bool.{Bool, true, false}
+use Prim.Native.Nat.{ℕ, zero, suc, _+_, _-_, _≤_, _<_}
+use native.Mathlib.Omega.{arith}
+use mathlib.Core.Path.{_≡_, refl, sym, ap, _∙_}
+use mathlib.Core.List.{List, [], _∷_, _++_, map, append-assoc, append-nil}
+use Rattle.follow.specs.Account.{stuck, pause, ended, lost, Event, account, Next, unlost, Step, onward, Beginning, go, Action, action, question, Question, ask, answer, stop}
 
 -- n steps that ask nothing, with what they write
 pub data Straight {S : Type 0} (step : S → Step S) : ℕ → S → List Action → S → Type 0 where

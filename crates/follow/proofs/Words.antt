@@ -1,76 +1,51 @@
 -- What a word writes is what its statements do: for each word by itself, an opener's action being carried to its user.
-use mathlib.Core.Bool.{Bool}
-
--- ------------------------------------------------------------ lists of statements
-
--- the actions of a list of statements
-abbrev pub acts : List Stmt → List Action
-acts xs = join (map actions xs)
-
-pub join-append : {X : Type 0} (xs ys : List (List X)) → join (xs ++ ys) ≡ join xs ++ join ys
-unfolding join
-join-append [] ys = refl
-join-append {X} (x ∷ xs) ys = ap {B = List X} (λ (r : List X). x ++ r) (join-append xs ys) ∙ sym (append-assoc x (join xs) (join ys))
-
-pub acts-append : (xs ys : List Stmt) → acts (xs ++ ys) ≡ acts xs ++ acts ys
-acts-append xs ys = ap {B = List Action} join (map-append actions xs ys) ∙ join-append (map actions xs) (map actions ys)
-
--- no statement of the list ends a block
-abbrev pub Quiet : List Stmt → Type 0
-Quiet [] = Unit {0}
-Quiet (s ∷ ss) = (endingOf s ≡ passes) × Quiet ss
-
-pub quiet-ending : (xs ys : List Stmt) → Quiet xs → ending (xs ++ ys) ≡ ending ys
-unfolding ending
-quiet-ending [] ys h = refl
-quiet-ending (x ∷ []) [] h = h .0
-quiet-ending (x ∷ []) (y ∷ ys) h = rw (h .0) refl
-quiet-ending (x ∷ z ∷ xs) ys h = rw (h .0) (quiet-ending (z ∷ xs) ys (h .1))
-
-pub quiet-passes : (xs : List Stmt) → Quiet xs → ending xs ≡ passes
-unfolding ending
-quiet-passes xs h = ap {B = Ending} ending (sym (append-nil xs)) ∙ quiet-ending xs [] h
-
-pub quiet-append : (xs ys : List Stmt) → Quiet xs → Quiet ys → Quiet (xs ++ ys)
-quiet-append [] ys h g = g
-quiet-append (x ∷ xs) ys h g = (h .0, quiet-append xs ys (h .1) g)
-
-pub quiet-cond : (b : Bool) (xs ys : List Stmt) → Quiet xs → Quiet ys → Quiet (cond b xs ys)
-quiet-cond true xs ys h g = h
-quiet-cond false xs ys h g = g
-
--- each statement of the list is its own action, and none ends a block
-abbrev pub Plain : List Stmt → Type 0
-Plain [] = Unit {0}
-Plain (s ∷ ss) = (actions s ≡ only (does s)) × (endingOf s ≡ passes) × Plain ss
-
-pub plain-acts : (xs : List Stmt) → Plain xs → acts xs ≡ map does xs
-unfolding join
-plain-acts [] h = refl
-plain-acts (x ∷ xs) h = rw (h .0) (ap {B = List Action} (λ (r : List Action). does x ∷ r) (plain-acts xs (h .2)))
-
-pub plain-quiet : (xs : List Stmt) → Plain xs → Quiet xs
-plain-quiet [] h = tt
-plain-quiet (x ∷ xs) h = (h .1, plain-quiet xs (h .2))
+-- Assumes nothing.
+use mathlib.Core.Bool.{Bool, true, false, not, cond, _&&_, _||_, false≢true}
+use Rattle.lua51_deserializer.specs.Word.{flag, straight, skip, jump, test, test-set, loop-entry, numeric-loop, generic-loop, exit, MOVE, LOADK, LOADBOOL, LOADNIL, GETUPVAL, GETGLOBAL, GETTABLE, SETGLOBAL, SETUPVAL, SETTABLE, NEWTABLE, SELF, ADD, SUB, MUL, DIV, MOD, POW, UNM, NOT, LEN, CONCAT, JMP, EQ, LT, LE, TEST, TESTSET, CALL, TAILCALL, RETURN, FORLOOP, FORPREP, TFORLOOP, SETLIST, CLOSE, CLOSURE, VARARG, UNKNOWN, numberOf, Op, Flow, rowOf, Row, rows}
+use Rattle.ast.specs.Statement.{register, constant, call, []ᵉ, _∷ᵉ_, Expr, registers, binary, vararg, Exprs, assign, op-concat, set-register, mark, if-statement, one, nil, index, op-equal, op-less, op-less-or-equal}
+use Prim.Native.Nat.{ℕ, zero, suc, _+_, _-_, _*_, _<_}
+use native.Mathlib.Omega.{arith}
+use mathlib.Core.Path.{_≡_, refl, sym, ap, _∙_}
+use mathlib.Core.List.{List, [], _∷_, _++_, map, flatMap, flatten, append-nil}
+use lib.Dec.{leb, ltb, eqb}
+use borrow.Author.Tests.{ltb-true, leb-true, leb-false, eqb-true, ne-eqb, lt-ltb}
+use Rattle.lua51_deserializer.proofs.Table.{among, op-number, opcode-test, op-is, flow-test, flow-opcodes, flow-not}
+use Rattle.lua51_lifter.specs.Check.{opener, user, check, allCaptures, fine, operand}
+use Rattle.lua51_deserializer.specs.Proto.{Proto, A, Bx, opcode, is, target, B, size, opAt, C, capturesOf, flowAt}
+use Rattle.lua51_lifter.specs.Lift.{captures, opened, concatenated, rk, taken, tailFor, statementsBy, callWith, condition, comparison}
+use Rattle.follow.specs.WordFollower.{jumped, upward, nils, RK, strung, captured, slots, At, takes, doing, testing, sets, owing, at, named}
+use Rattle.follow.specs.GraphFollower.{marks, opensIn, actions, inside, folds, insides, marked, opensOf, fold, outsides, outside, endingOf, bare, tailOpens, tailMarked, asks}
+use Rattle.lua51_deserializer.specs.Range.{over, only}
+use Rattle.follow.specs.Account.{Action, does, opens, go, holds, Next, Step}
+use Rattle.lua51_deserializer.proofs.Tests.{not-is, or-right, or-left, and-left, either-way, or-cases, and-right, clash}
+use Rattle.follow.proofs.Statements.{acts, Plain, Quiet, plain-acts, quiet-cond, plain-quiet}
+use Rattle.lua51_lifter.proofs.Accepted.{no-user, opener-used, user-after, inside-c, inside-a, opcode-known, closure-captures}
+use Rattle.cfg.specs.Graph.{leader}
+use lib.ListN.{getD}
 
 -- ------------------------------------------------------------ expressions
 
-marks-registers : (r n : ℕ) (xs : Exprs) → marks (registers r n xs) ≡ registers r n (marks xs)
-unfolding marks marked registers
+marks-registers : (r n : ℕ) (xs : Exprs) → marks (registers r n xs) ≡ slots r n (marks xs)
+unfolding marks marked fold registers slots
 marks-registers r zero xs = refl
 marks-registers r (suc n) xs = ap {B = Exprs} (λ (x : Exprs). register r ∷ᵉ x) (marks-registers (r + 1) n xs)
 
 opens-registers : (r n : ℕ) (xs : Exprs) → opensIn (registers r n xs) ≡ opensIn xs
-unfolding opensIn opensOf registers
+unfolding opensIn flatten folds fold registers
 opens-registers r zero xs = refl
 opens-registers r (suc n) xs = opens-registers (r + 1) n xs
+
+-- an open call, by what is known of its arguments
+opens-call : (f : Expr) (xs ys : Exprs) (acts : List Action) → opensIn xs ≡ acts → marks xs ≡ ys → opensOf (call f xs) ≡ acts ++ only (opens (call f ys))
+unfolding opensOf opensIn fold
+opens-call f xs ys acts e d = rw (← e, ← d)
 
 -- an operand, or a concatenation, is no call
 unfoldable Bare : Expr → Type 0
 Bare x = (inside x ≡ []) × (outside x ≡ x)
 
 rk-bare : (x : ℕ) → Bare (rk x)
-unfolding Bare rk inside outside
+unfolding Bare rk inside outside fold
 rk-bare x = go (ltb 255 x)
   where
     go : (b : Bool) → (inside (cond b (constant (x - 256)) (register x)) ≡ []) × (outside (cond b (constant (x - 256)) (register x)) ≡ cond b (constant (x - 256)) (register x))
@@ -78,7 +53,7 @@ rk-bare x = go (ltb 255 x)
     go false = (refl, refl)
 
 concatenated-bare : (b n : ℕ) → Bare (concatenated b n)
-unfolding Bare concatenated inside outside
+unfolding Bare concatenated inside outside fold
 concatenated-bare b zero = (refl, refl)
 concatenated-bare b (suc n) = (refl, refl)
 
@@ -88,13 +63,32 @@ assign-bare ls x h = rw (h .0, h .1)
 
 -- ------------------------------------------------------------ the two readings of a word's fields
 
--- the follower of words has its own definitions of what a word's fields mean: in an accepted function they give what the lifting's give
+-- word i is a MOVE or a GETUPVAL
+abbrev pub capture : Proto → ℕ → Bool
+capture p i = is p i MOVE || is p i GETUPVAL
+
+-- The follower of words has its own definitions of what a word's fields mean. They give what the lifting's give.
 rk-is : (x : ℕ) → rk x ≡ RK x
 unfolding rk RK
 rk-is x = refl
 
+-- the table's names, by themselves
+names-are : (rs : List Row) (d : Row) (o : ℕ) → getD rs o d .op ≡ getD (map (λ (r : Row). r .op) rs) o (d .op)
+names-are [] d o = refl
+names-are (r ∷ rs) d zero = refl
+names-are (r ∷ rs) d (suc o) = names-are rs d o
+
+pub named-is : (p : Proto) (i : ℕ) → i < size p → named p i ≡ opAt p i
+unfolding named rowOf
+named-is p i lt = rw (lt-ltb i (size p) lt) (sym (names-are rows _ (opcode p i)))
+
+registers-are : (r n : ℕ) (xs : Exprs) → registers r n xs ≡ slots r n xs
+unfolding registers slots
+registers-are r zero xs = refl
+registers-are r (suc n) xs = ap {B = Exprs} (λ (x : Exprs). register r ∷ᵉ x) (registers-are (r + 1) n xs)
+
 pub jumped-is : (p : Proto) (i : ℕ) → jumped i (Bx p i) ≡ target p i
-unfolding jump
+unfolding jumped
 jumped-is p i = either-way (leb 131071 (Bx p i))
     (λ h. rw h (omega (arith, leb-true 131071 (Bx p i) h)))
     (λ h. rw h (omega (arith, leb-false 131071 (Bx p i) h)))
@@ -109,17 +103,18 @@ unfolding over nils upward
 nils-are r zero = refl
 nils-are r (suc n) = ap {B = List Action} (λ (x : List Action). sets r nil ∷ x) (nils-are (r + 1) n)
 
-strung-is : (b n : ℕ) → concatenated b n ≡ strung (registers b (suc n) []ᵉ)
-unfolding concatenated strung registers
+strung-is : (b n : ℕ) → concatenated b n ≡ strung (slots b (suc n) []ᵉ)
+unfolding concatenated strung slots
 strung-is b zero = refl
-strung-is b (suc n) = ap {B = Expr} (λ (x : Expr). binary 7 (register b) x) (strung-is (b + 1) n)
+strung-is b (suc n) = ap {B = Expr} (λ (x : Expr). binary op-concat (register b) x) (strung-is (b + 1) n)
 
 captured-is : (p : Proto) (i n : ℕ) → allCaptures p i n ≡ true → captures p i n ≡ captured p (i + 1) n
 unfolding captures captured allCaptures
 captured-is p i zero h = refl
 captured-is p i (suc n) h =
-    let rest : captures p (i + 1) n ≡ captured p (i + 1 + 1) n = captured-is p (i + 1) n (and-right (not (leader p (i + 1))) _ (and-right (eqb (opcode p (i + 1)) (numberOf MOVE) || eqb (opcode p (i + 1)) (numberOf GETUPVAL)) _ h)) in
-    or-cases (eqb (opcode p (i + 1)) (numberOf MOVE)) (eqb (opcode p (i + 1)) (numberOf GETUPVAL)) (and-left (eqb (opcode p (i + 1)) (numberOf MOVE) || eqb (opcode p (i + 1)) (numberOf GETUPVAL)) _ h)
+    let both = and-left _ (allCaptures p (i + 1) n) h in
+    let rest : captures p (i + 1) n ≡ captured p (i + 1 + 1) n = captured-is p (i + 1) n (and-right (capture p (i + 1) && not (leader p (i + 1))) _ h) in
+    or-cases (is p (i + 1) MOVE) (is p (i + 1) GETUPVAL) (and-left (capture p (i + 1)) (not (leader p (i + 1))) both)
     (λ e. rw (eqb-true (opcode p (i + 1)) (numberOf MOVE) e, rest))
     (λ e. rw (eqb-true (opcode p (i + 1)) (numberOf GETUPVAL) e, rest))
 
@@ -127,10 +122,10 @@ captured-is p i (suc n) h =
 
 -- the opcodes of such words, but for JMP and FORPREP
 unfoldable pub ordinary : ℕ → Bool
-ordinary o = ltb o 22 || eqb o 35 || eqb o 36
+ordinary o = ltb o (numberOf JMP) || eqb o (numberOf CLOSE) || eqb o (numberOf CLOSURE)
 
 pub nils-plain : (r n : ℕ) → Plain (over (λ r. only (set-register r nil)) r n)
-unfolding over actions insides outsides inside outside endingOf
+unfolding over actions insides outsides inside outside fold endingOf
 nils-plain r zero = tt
 nils-plain r (suc n) = (refl, refl, nils-plain (r + 1) n)
 
@@ -138,7 +133,7 @@ nils-plain r (suc n) = (refl, refl, nils-plain (r + 1) n)
 
 -- the open results that word i takes, as actions
 unfoldable pub carried : Proto → ℕ → List Action
-carried p i = cond (user p i) (opensOf (opened p (i - 1)))
+carried p i = cond (user p i) (opensOf (opened p (i - 1))) []
 
 pub carried-none : (p : Proto) (i : ℕ) → user p i ≡ false → carried p i ≡ []
 unfolding carried
@@ -146,15 +141,21 @@ carried-none p i h = rw h
 
 -- the opcodes that neither leave nor take open results
 abbrev pub loose : ℕ → Bool
-loose o = not (eqb o 28 || eqb o 29 || eqb o 30 || eqb o 34 || eqb o 37)
+loose o = not (among (CALL ∷ TAILCALL ∷ RETURN ∷ SETLIST ∷ VARARG ∷ []) o)
 
-loose-parts : (o : ℕ) → loose o ≡ true → (eqb o 28 ≡ false) × (eqb o 29 ≡ false) × (eqb o 30 ≡ false) × (eqb o 34 ≡ false) × (eqb o 37 ≡ false)
+loose-parts : (o : ℕ) → loose o ≡ true → (eqb o (numberOf CALL) ≡ false) × (eqb o (numberOf TAILCALL) ≡ false) × (eqb o (numberOf RETURN) ≡ false) × (eqb o (numberOf SETLIST) ≡ false) × (eqb o (numberOf VARARG) ≡ false)
 loose-parts o h =
-    let a = not-is (eqb o 28 || eqb o 29 || eqb o 30 || eqb o 34 || eqb o 37) h in
-    let b = or-right (eqb o 28) _ a in
-    let c = or-right (eqb o 29) _ b in
-    let d = or-right (eqb o 30) _ c in
-    (or-left (eqb o 28) _ a, or-left (eqb o 29) _ b, or-left (eqb o 30) _ c, or-left (eqb o 34) _ d, or-right (eqb o 34) _ d)
+    let a = not-is (among (CALL ∷ TAILCALL ∷ RETURN ∷ SETLIST ∷ VARARG ∷ []) o) h in
+    let b = or-right (eqb o (numberOf CALL)) _ a in
+    let c = or-right (eqb o (numberOf TAILCALL)) _ b in
+    let d = or-right (eqb o (numberOf RETURN)) _ c in
+    let e = or-right (eqb o (numberOf SETLIST)) _ d in (
+      or-left (eqb o (numberOf CALL)) _ a,
+      or-left (eqb o (numberOf TAILCALL)) _ b,
+      or-left (eqb o (numberOf RETURN)) _ c,
+      or-left (eqb o (numberOf SETLIST)) _ d,
+      or-left (eqb o (numberOf VARARG)) _ e,
+    )
 
 pub loose-opener : (p : Proto) (i : ℕ) → loose (opcode p i) ≡ true → opener p i ≡ false
 unfolding opener
@@ -165,13 +166,13 @@ unfolding user
 loose-user p i h = let l = loose-parts (opcode p i) h in rw (l .0, l .1, l .2, l .3)
 
 opened-marked : (p : Proto) (i : ℕ) → marked (opened p i) ≡ mark
-unfolding opened marked
-opened-marked p zero = go (eqb (opcode p zero) (numberOf VARARG))
+unfolding opened marked fold
+opened-marked p zero = go (is p zero VARARG)
   where
     go : (b : Bool) → marked (cond b vararg (callWith p zero []ᵉ)) ≡ mark
     go true = refl
     go false = refl
-opened-marked p (suc j) = go (eqb (opcode p (suc j)) (numberOf VARARG))
+opened-marked p (suc j) = go (is p (suc j) VARARG)
   where
     go : (b : Bool) → marked (cond b vararg (callWith p (suc j) (one (opened p j)))) ≡ mark
     go true = refl
@@ -188,18 +189,18 @@ module _ (p : Proto) (i k : ℕ) (keeps : user p i ≡ true → k ≡ A p (i - 1
       (λ e. rw (e, marks-registers))
 
   taken-opens : (first : ℕ) → opensIn (taken p i first (tailFor p i)) ≡ carried p i
-  unfolding taken carried opensIn
+  unfolding taken carried opensIn opensOf flatten folds fold
   taken-opens first = either-way (eqb (B p i) 0)
       (λ e. rw (u, e, opens-registers) (append-nil (opensOf (opened p (i - 1)))))
       (λ e. rw (u, e) (opens-registers first (B p i - 1) []ᵉ))
 
 -- the call that an opener's result is
-opened-call : (p : Proto) (i : ℕ) → eqb (opcode p i) (numberOf VARARG) ≡ false → (eqb (B p i) 0 ≡ true → 0 < i) → opened p i ≡ callWith p i (tailFor p i)
+opened-call : (p : Proto) (i : ℕ) → is p i VARARG ≡ false → (eqb (B p i) 0 ≡ true → 0 < i) → opened p i ≡ callWith p i (tailFor p i)
 unfolding opened taken
 opened-call p zero h b = either-way (eqb (B p zero) 0) (λ e. absurd (omega (arith, b e))) (λ e. rw (h, e))
 opened-call p (suc j) h b = let e : suc j - 1 ≡ j = omega arith in rw (h, e)
 
-opened-vararg : (p : Proto) (i : ℕ) → eqb (opcode p i) (numberOf VARARG) ≡ true → opened p i ≡ vararg
+opened-vararg : (p : Proto) (i : ℕ) → is p i VARARG ≡ true → opened p i ≡ vararg
 unfolding opened
 opened-vararg p zero h = rw h
 opened-vararg p (suc j) h = rw h
@@ -213,69 +214,70 @@ pub record Test (p : Proto) (i k : ℕ) (op : Op) (following : At) : Type 0 wher
   pub done : doing p i k op ≡ testing p i k (holds of) flag following
   pub plainly : bare of ≡ asks (holds of) false
 
--- the opcodes of tests but for TESTSET; and of the words that are no test, no jump and no RETURN
-abbrev pub tests : ℕ → Bool
-tests o = eqb o 23 || eqb o 24 || eqb o 25 || eqb o 26
-
+-- the opcodes of the words that are no test, no loop, no jump and no RETURN
 abbrev pub others : ℕ → Bool
-others o = eqb o 28 || eqb o 29 || eqb o 34 || eqb o 37 || ordinary o || ltb 37 o
+others o = among (CALL ∷ TAILCALL ∷ SETLIST ∷ VARARG ∷ []) o || ordinary o || leb (numberOf UNKNOWN) o
 
 -- ------------------------------------------------------------ one word
 
 module _ (p : Proto) (ok : check p ≡ fine) (i : ℕ) (lt : i < size p) where
-  row-parts : (operand p (rowOf (word p i) .a) (A p i) 0 ≡ true) × (operand p (rowOf (word p i) .c) (C p i) 0 ≡ true) × (shape p i (opcode p i) ≡ true)
-  unfolding operands
-  row-parts =
-      let a = and-right (ltb (opcode p i) 38) _ (fine-operands p ok i lt) in
-      let b = and-right (operand p (rowOf (word p i) .a) (A p i) 0) _ a in
-      let c = and-right (operand p (rowOf (word p i) .b) (B p i) (Bx p i)) _ b in
-      let d = and-right (operand p (rowOf (word p i) .c) (C p i) 0) _ c in
-      (and-left (operand p (rowOf (word p i) .a) (A p i) 0) _ a, and-left (operand p (rowOf (word p i) .c) (C p i) 0) _ c, and-right (eqb (reach p i (opcode p i)) 0 || ltb (reach p i (opcode p i)) (p .stack)) _ d)
+  flag-a : (o : Op) → opcode p i ≡ numberOf o → rowOf (numberOf o) .a ≡ flag → A p i < 2
+  unfolding operand
+  flag-a o e h = omega (arith, leb-true (A p i) 1 (rw (e, h) at (inside-a p ok i lt)))
 
-  flag-a : (c : ℕ) → opcode p i ≡ c % 64 → rowOf c .a ≡ flag → A p i < 2
-  flag-a c e h = unfold operand in ltb-true (A p i) 2 (rw (row-is (word p i) c e, h) at (row-parts .0))
+  flag-c : (o : Op) → opcode p i ≡ numberOf o → rowOf (numberOf o) .c ≡ flag → C p i < 2
+  unfolding operand
+  flag-c o e h = omega (arith, leb-true (C p i) 1 (rw (e, h) at (inside-c p ok i lt)))
 
-  flag-c : (c : ℕ) → opcode p i ≡ c % 64 → rowOf c .c ≡ flag → C p i < 2
-  flag-c c e h = unfold operand in ltb-true (C p i) 2 (rw (row-is (word p i) c e, h) at (row-parts .1))
-
-  pub test-word : (k : ℕ) → tests (opcode p i) ≡ true → Test p i k (opAt p i) (at (i + 1) 0)
-  unfolding statementsBy doing bare
+  pub test-word : (k : ℕ) → among (EQ ∷ LT ∷ LE ∷ TEST ∷ []) (opcode p i) ≡ true → Test p i k (opAt p i) (at (i + 1) 0)
+  unfolding statementsBy doing bare fold
   test-word k h =
-      or-cases (eqb (opcode p i) (numberOf EQ)) _ h (λ e. by 23 EQ e (unfold rowOf in refl) (λ c. record { of = binary 8 (rk (B p i)) (rk (C p i)); flag = A p i; small = flag-a 23 c (unfold rowOf in refl); said = refl; done = simp rk-is; plainly = refl })) (λ h.
-      or-cases (eqb (opcode p i) (numberOf LT)) _ h (λ e. by 24 LT e (unfold rowOf in refl) (λ c. record { of = binary 10 (rk (B p i)) (rk (C p i)); flag = A p i; small = flag-a 24 c (unfold rowOf in refl); said = refl; done = simp rk-is; plainly = refl })) (λ h.
-      or-cases (eqb (opcode p i) (numberOf LE)) _ h (λ e. by 25 LE e (unfold rowOf in refl) (λ c. record { of = binary 11 (rk (B p i)) (rk (C p i)); flag = A p i; small = flag-a 25 c (unfold rowOf in refl); said = refl; done = simp rk-is; plainly = refl })) (λ e.
-      by 26 TEST e (unfold rowOf in refl) (λ c. record { of = register (A p i); flag = C p i; small = flag-c 26 c (unfold rowOf in refl); said = refl; done = refl; plainly = refl }))))
+      or-cases (is p i EQ) _ h (λ e. compared EQ op-equal e (unfold rowOf in refl) refl (simp rk-is)) (λ h.
+      or-cases (is p i LT) _ h (λ e. compared LT op-less e (unfold rowOf in refl) refl (simp rk-is)) (λ h.
+      or-cases (is p i LE) _ h (λ e. compared LE op-less-or-equal e (unfold rowOf in refl) refl (simp rk-is)) (λ h.
+      or-cases (is p i TEST) _ h
+      (λ e. let q = eqb-true (opcode p i) (numberOf TEST) e in
+      rw (op-is p i TEST q) (record { of = register (A p i); flag = C p i; small = flag-c TEST q (unfold rowOf in refl); said = refl; done = refl; plainly = refl }))
+      (λ h. absurd (false≢true h)))))
     where
-      by : (c : ℕ) (o : Op) → eqb (opcode p i) (c % 64) ≡ true → rowOf c .op ≡ o → (opcode p i ≡ c % 64 → Test p i k o (at (i + 1) 0)) → Test p i k (opAt p i) (at (i + 1) 0)
-      by c o e r t = let q = eqb-true (opcode p i) (c % 64) e in rw (op-is p i c o q r) (t q)
+      compared : (o : Op) (op : ℕ) → is p i o ≡ true → rowOf (numberOf o) .a ≡ flag → statementsBy p i o ≡ comparison p i op → doing p i k o ≡ testing p i k (holds (binary op (rk (B p i)) (rk (C p i)))) (A p i) (at (i + 1) 0) → Test p i k (opAt p i) (at (i + 1) 0)
+      compared o op e r said done =
+          let q = eqb-true (opcode p i) (numberOf o) e in
+          rw (op-is p i o q) (record { of = binary op (rk (B p i)) (rk (C p i)); flag = A p i; small = flag-a o q r; said = said; done = done; plainly = refl })
 
   pub set-word : (k : ℕ) → opcode p i ≡ numberOf TESTSET → Test p i k (opAt p i) (owing (only (sets (A p i) (register (B p i)))) (i + 1))
-  unfolding statementsBy doing bare
-  set-word k e = rw (op-is p i TESTSET e) (record { of = register (B p i); flag = C p i; small = flag-c 27 e (unfold rowOf in refl); said = refl; done = refl; plainly = refl })
+  unfolding statementsBy doing bare fold
+  set-word k e = rw (op-is p i TESTSET e) (record { of = register (B p i); flag = C p i; small = flag-c TESTSET e (unfold rowOf in refl); said = refl; done = refl; plainly = refl })
 
   -- the cases of such other words
   by-opcode : {T : Type 0} → others (opcode p i) ≡ true → (opcode p i ≡ numberOf CALL → T) → (opcode p i ≡ numberOf TAILCALL → T) → (opcode p i ≡ numberOf SETLIST → T) → (opcode p i ≡ numberOf VARARG → T) → (ordinary (opcode p i) ≡ true → T) → T
-  by-opcode h t28 t29 t34 t37 other =
-      or-cases (eqb (opcode p i) (numberOf CALL)) _ h (λ e. t28 (eqb-true (opcode p i) (numberOf CALL) e)) (λ h.
-      or-cases (eqb (opcode p i) (numberOf TAILCALL)) _ h (λ e. t29 (eqb-true (opcode p i) (numberOf TAILCALL) e)) (λ h.
-      or-cases (eqb (opcode p i) (numberOf SETLIST)) _ h (λ e. t34 (eqb-true (opcode p i) (numberOf SETLIST) e)) (λ h.
-      or-cases (eqb (opcode p i) (numberOf VARARG)) _ h (λ e. t37 (eqb-true (opcode p i) (numberOf VARARG) e)) (λ h.
-      or-cases (ordinary (opcode p i)) _ h other (λ e. absurd (omega (arith, ltb-true 37 (opcode p i) e, opcode-small p ok i lt)))))))
+  by-opcode {T} h at-call at-tailcall at-setlist at-vararg other =
+      or-cases (among (CALL ∷ TAILCALL ∷ SETLIST ∷ VARARG ∷ []) (opcode p i) || ordinary (opcode p i)) _ h
+      (λ h. or-cases (among (CALL ∷ TAILCALL ∷ SETLIST ∷ VARARG ∷ []) (opcode p i)) _ h calls other)
+      (λ e. absurd (omega (arith, leb-true (numberOf UNKNOWN) (opcode p i) e, opcode-known p ok i lt)))
+    where
+      calls : among (CALL ∷ TAILCALL ∷ SETLIST ∷ VARARG ∷ []) (opcode p i) ≡ true → T
+      calls h =
+          or-cases (is p i CALL) _ h (λ e. at-call (eqb-true (opcode p i) (numberOf CALL) e)) (λ h.
+          or-cases (is p i TAILCALL) _ h (λ e. at-tailcall (eqb-true (opcode p i) (numberOf TAILCALL) e)) (λ h.
+          or-cases (is p i SETLIST) _ h (λ e. at-setlist (eqb-true (opcode p i) (numberOf SETLIST) e)) (λ h.
+          or-cases (is p i VARARG) _ h (λ e. at-vararg (eqb-true (opcode p i) (numberOf VARARG) e)) (λ h. absurd (false≢true h)))))
 
   number : {o : Op} → opAt p i ≡ o → opcode p i ≡ numberOf o
-  number e = rw e at (sym (op-number p i (opcode-small p ok i lt)))
+  number e = rw e at (sym (op-number p i (opcode-known p ok i lt)))
 
   -- CONCAT's B is below its C
   in-order : opcode p i ≡ numberOf CONCAT → C p i + 1 - B p i ≡ suc (C p i - B p i)
-  in-order e = unfold shape in omega (arith, ltb-true (B p i) (C p i) (rw e at (row-parts .2)))
+  in-order e = unfold operand rowOf in
+      omega (arith, ltb-true (B p i) (C p i) (and-left (ltb (B p i) (C p i)) _ (rw e at (inside-c p ok i lt))))
 
   -- where such a word goes, as the operation o
   abbrev afterwards : Op → ℕ
-  afterwards o = cond (eqb (numberOf o) 36) (i + 1 + capturesOf p i) (cond (eqb (numberOf o) 2) (cond (eqb (C p i) 0) (i + 1) (i + 2)) (i + 1))
+  afterwards o = cond (eqb (numberOf o) (numberOf CLOSURE)) (i + 1 + capturesOf p i) (cond (eqb (numberOf o) (numberOf LOADBOOL)) (cond (eqb (C p i) 0) (i + 1) (i + 2)) (i + 1))
 
   -- its statements are actions of their own and end no block; the follower of words does them and goes there
   plain-word : (k : ℕ) (o : Op) → ordinary (numberOf o) ≡ true → opAt p i ≡ o → Plain (statementsBy p i o) × (doing p i k o ≡ record { writes = map does (statementsBy p i o); next = go (at (afterwards o) 0) })
-  unfolding statementsBy doing ordinary actions insides outsides inside outside endingOf
+  unfolding statementsBy doing ordinary actions insides outsides inside outside fold endingOf
   plain-word k MOVE h e = ((refl, refl, tt), refl)
   plain-word k LOADK h e = ((refl, refl, tt), refl)
   plain-word k LOADBOOL h e = ((refl, refl, tt), refl)
@@ -317,7 +319,7 @@ module _ (p : Proto) (ok : check p ≡ fine) (i : ℕ) (lt : i < size p) where
   plain-word k UNKNOWN h e = absurd (false≢true h)
 
   ordinary-word : (k : ℕ) → ordinary (opcode p i) ≡ true → Plain (statementsBy p i (opAt p i)) × (doing p i k (opAt p i) ≡ record { writes = map does (statementsBy p i (opAt p i)); next = go (at (afterwards (opAt p i)) 0) })
-  ordinary-word k h = plain-word k (opAt p i) (rw (op-number p i (opcode-small p ok i lt)) h) refl
+  ordinary-word k h = plain-word k (opAt p i) (rw (op-number p i (opcode-known p ok i lt)) h) refl
 
   -- they end no block
   pub quiet-word : others (opcode p i) ≡ true → Quiet (statementsBy p i (opAt p i))
@@ -332,7 +334,7 @@ module _ (p : Proto) (ok : check p ≡ fine) (i : ℕ) (lt : i < size p) where
   calm o = or-cases (not (ordinary (opcode p i))) _ (opcode-test p i (λ o. not (ordinary o) || loose o) (unfold ordinary in refl)) (λ n. clash o (not-is (ordinary (opcode p i)) n)) (λ y. y)
 
   -- a straight word goes on to the next, or past its captures, and an opener keeps its A
-  pub next-straight : (k : ℕ) → flowAt p i ≡ straight → doing p i k (opAt p i) .next ≡ go (at (i + 1 + cond (eqb (opcode p i) (numberOf CLOSURE)) (capturesOf p i) 0) (cond (opener p i) (A p i) 0))
+  pub next-straight : (k : ℕ) → flowAt p i ≡ straight → doing p i k (opAt p i) .next ≡ go (at (i + 1 + cond (is p i CLOSURE) (capturesOf p i) 0) (cond (opener p i) (A p i) 0))
   unfolding doing opener
   next-straight k e = by-opcode (flow-test p i straight others e (unfold ordinary in refl))
       (λ c. rw (op-is p i CALL c, c, plus) (either-way (eqb (C p i) 0) (λ z. rw z) (λ z. either-way (eqb (C p i) 1) (λ y. rw (z, y)) (λ y. rw (z, y)))))
@@ -340,13 +342,13 @@ module _ (p : Proto) (ok : check p ≡ fine) (i : ℕ) (lt : i < size p) where
       (λ c. rw (op-is p i SETLIST c, c, plus) (either-way (eqb (B p i) 0) (λ z. rw z) (λ z. rw z)))
       (λ c. rw (op-is p i VARARG c, c, plus) (either-way (eqb (B p i) 0) (λ z. rw z) (λ z. rw z)))
       (λ o. ap {B = Next At} (λ (s : Step At). s .next) (ordinary-word k o .1)
-      ∙ rw (loose-opener p i (calm o), named-so, ne-eqb (opcode p i) (numberOf LOADBOOL) (flow-not p i straight LOADBOOL e refl)) (either-way (eqb (opcode p i) (numberOf CLOSURE)) (λ z. rw z) (λ z. rw (z, plus))))
+      ∙ rw (loose-opener p i (calm o), named-so, ne-eqb (opcode p i) (numberOf LOADBOOL) (flow-not p i straight LOADBOOL e refl)) (either-way (is p i CLOSURE) (λ z. rw z) (λ z. rw (z, plus))))
     where
       plus : i + 1 + 0 ≡ i + 1
       plus = omega arith
 
       named-so : numberOf (opAt p i) ≡ opcode p i
-      named-so = op-number p i (opcode-small p ok i lt)
+      named-so = op-number p i (opcode-known p ok i lt)
 
   -- word i, as the operation o, writes ws, and an opener's action comes with its user
   abbrev Says : Op → List Action → Type 0
@@ -364,47 +366,47 @@ module _ (p : Proto) (ok : check p ≡ fine) (i : ℕ) (lt : i < size p) where
 
   module _ (k : ℕ) (keeps : user p i ≡ true → k ≡ A p (i - 1)) where
     -- an open call of word i, at its user
-    open-call : opener p i ≡ true → eqb (opcode p i) (numberOf VARARG) ≡ false → (u : user p i ≡ eqb (B p i) 0) → carried p (i + 1) ≡ carried p i ++ only (opens (call (register (A p i)) (takes p i k (A p i + 1))))
-    unfolding opensOf
-    open-call o v u = behind o ∙ (ap {B = List Action} opensOf (opened-call p i v (λ e. user-after p ok i lt (u ∙ e))) ∙ rw (taken-opens p i k keeps u (A p i + 1), taken-marks p i k keeps u (A p i + 1)))
+    says-open : opener p i ≡ true → is p i VARARG ≡ false → (u : user p i ≡ eqb (B p i) 0) → carried p (i + 1) ≡ carried p i ++ only (opens (call (register (A p i)) (takes p i k (A p i + 1))))
+    unfolding opensOf fold
+    says-open o v u = behind o ∙ (ap {B = List Action} opensOf (opened-call p i v (λ e. user-after p ok i lt (u ∙ e))) ∙ opens-call (register (A p i)) (taken p i (A p i + 1) (tailFor p i)) _ _ (taken-opens p i k keeps u (A p i + 1)) (taken-marks p i k keeps u (A p i + 1)))
 
     says-call : opcode p i ≡ numberOf CALL → Says CALL (doing p i k CALL .writes)
-    unfolding statementsBy doing join actions insides outsides inside outside
+    unfolding statementsBy doing flatMap actions insides outsides inside outside fold
     says-call e = either-way (eqb (C p i) 0)
-        (λ c. rw c (open-call (unfold opener in rw (e, c)) (rw e) u))
+        (λ c. rw c (says-open (unfold opener in rw (e, c)) (rw e) u))
         (λ c. let n = none-behind (unfold opener in rw (e, c)) in
         either-way (eqb (C p i) 1)
         (λ d. rw (c, d, n, taken-opens p i k keeps u (A p i + 1), taken-marks p i k keeps u (A p i + 1)) (simp append-nil))
-        (λ d. rw (c, d, n, taken-opens p i k keeps u (A p i + 1), taken-marks p i k keeps u (A p i + 1)) (simp append-nil)))
+        (λ d. rw (c, d, n, taken-opens p i k keeps u (A p i + 1), taken-marks p i k keeps u (A p i + 1), registers-are (A p i) (C p i - 1) []ᵉ) (simp append-nil)))
       where
         u : user p i ≡ eqb (B p i) 0
         u = unfold user in rw e
 
     says-tailcall : opcode p i ≡ numberOf TAILCALL → Says TAILCALL (doing p i k TAILCALL .writes)
-    unfolding statementsBy doing join
-    says-tailcall e = open-call (unfold opener in rw e) (rw e) (unfold user in rw e)
+    unfolding statementsBy doing flatMap
+    says-tailcall e = says-open (unfold opener in rw e) (rw e) (unfold user in rw e)
 
     says-return : opcode p i ≡ numberOf RETURN → Says RETURN (doing p i k RETURN .writes)
-    unfolding statementsBy doing join actions
+    unfolding statementsBy doing flatMap actions
     says-return e = rw (none-behind (unfold opener in rw e), taken-opens p i k keeps u (A p i), taken-marks p i k keeps u (A p i)) (simp append-nil)
       where
         u : user p i ≡ eqb (B p i) 0
         u = unfold user in rw e
 
     says-vararg : opcode p i ≡ numberOf VARARG → Says VARARG (doing p i k VARARG .writes)
-    unfolding statementsBy doing join actions insides outsides inside outside
+    unfolding statementsBy doing flatMap actions insides outsides inside outside fold
     says-vararg e = either-way (eqb (B p i) 0)
-        (λ b. rw (b, u, behind (unfold opener in rw (e, b)), opened-vararg p i (rw e)) (unfold opensOf in refl))
-        (λ b. rw (b, u, none-behind (unfold opener in rw (e, b))))
+        (λ b. rw (b, u, behind (unfold opener in rw (e, b)), opened-vararg p i (rw e)) (unfold opensOf fold in refl))
+        (λ b. rw (b, u, none-behind (unfold opener in rw (e, b)), registers-are (A p i) (B p i - 1) []ᵉ))
       where
         u : carried p i ≡ []
         u = carried-none p i (unfold user in rw e)
 
     says-setlist : opcode p i ≡ numberOf SETLIST → Says SETLIST (doing p i k SETLIST .writes)
-    unfolding statementsBy doing join actions tailOpens tailMarked
+    unfolding statementsBy doing flatMap actions tailOpens tailMarked
     says-setlist e = either-way (eqb (B p i) 0)
-        (λ b. rw (b, none-behind o, opened-marked, ← keeps (u ∙ b), from, takes-it b) (simp append-nil))
-        (λ b. rw (b, none-behind o, from, carried-none p i (u ∙ b)))
+        (λ b. rw (b, none-behind o, opened-marked, ← keeps (u ∙ b), from, takes-it b, registers-are (A p i + 1) (k - (A p i + 1)) []ᵉ) (simp append-nil))
+        (λ b. rw (b, none-behind o, from, carried-none p i (u ∙ b), registers-are (A p i + 1) (B p i) []ᵉ))
       where
         u : user p i ≡ eqb (B p i) 0
         u = unfold user in rw e
@@ -416,7 +418,7 @@ module _ (p : Proto) (ok : check p ≡ fine) (i : ℕ) (lt : i < size p) where
         takes-it b = unfold carried in rw (u, b)
 
         some : 0 < C p i
-        some = unfold shape in ltb-true 0 (C p i) (rw e at (row-parts .2))
+        some = unfold operand rowOf in ltb-true 0 (C p i) (rw e at (inside-c p ok i lt))
 
         from : (C p i - 1) * 50 + 1 ≡ 50 * C p i - 49
         from = omega (arith, some)
@@ -430,22 +432,24 @@ module _ (p : Proto) (ok : check p ≡ fine) (i : ℕ) (lt : i < size p) where
         (λ o. says-loose (opAt p i) (doing p i k (opAt p i) .writes) (calm o) refl (plain-acts (statementsBy p i (opAt p i)) (ordinary-word k o .0) ∙ sym (ap {B = List Action} (λ (s : Step At). s .writes) (ordinary-word k o .1))))
 
     says-test : {s : At} → loose (opcode p i) ≡ true → Test p i k (opAt p i) s → Says (opAt p i) (doing p i k (opAt p i) .writes)
-    unfolding testing join actions
+    unfolding testing flatMap actions
     says-test l t = says-loose (opAt p i) (doing p i k (opAt p i) .writes) l refl (rw (t .said, t .done))
 
     -- a word of one opcode
-    says-as : (c : ℕ) (o : Op) → opcode p i ≡ c % 64 → rowOf c .op ≡ o → loose (opcode p i) ≡ true → acts (statementsBy p i o) ≡ doing p i k o .writes → Says (opAt p i) (doing p i k (opAt p i) .writes)
-    says-as c o e r l s = says-loose (opAt p i) (doing p i k (opAt p i) .writes) l refl (rw (op-is p i c o e r) s)
+    says-as : (o : Op) → is p i o ≡ true → loose (opcode p i) ≡ true → acts (statementsBy p i o) ≡ doing p i k o .writes → Says (opAt p i) (doing p i k (opAt p i) .writes)
+    says-as o e l s = says-loose (opAt p i) (doing p i k (opAt p i) .writes) l refl (rw (op-is p i o (eqb-true (opcode p i) (numberOf o) e)) s)
 
     -- the law of one word
     pub says : (f : Flow) → flowAt p i ≡ f → Says (opAt p i) (doing p i k (opAt p i) .writes)
-    unfolding doing statementsBy ordinary join actions insides outsides inside outside opensIn opensOf registers marks marked
+    unfolding doing statementsBy ordinary flatMap actions insides outsides inside outside fold folds flatten opensIn registers marks marked
     says straight e = says-other (flow-test p i straight others e refl)
-    says test e = says-test (flow-test p i test loose e refl) (test-word k (flow-test p i test tests e refl))
-    says test-set e = says-test (flow-test p i test-set loose e refl) (set-word k (eqb-true (opcode p i) (numberOf TESTSET) (flow-opcodes p i test-set e)))
-    says generic-loop e = let two : A p i + 1 + 1 ≡ A p i + 2 = omega arith in says-as 33 TFORLOOP (eqb-true (opcode p i) (numberOf TFORLOOP) (flow-opcodes p i generic-loop e)) (unfold rowOf in refl) (flow-test p i generic-loop loose e refl) (rw two)
-    says jump e = says-as 22 JMP (eqb-true (opcode p i) (numberOf JMP) (flow-opcodes p i jump e)) (unfold rowOf in refl) (flow-test p i jump loose e refl) refl
-    says numeric-loop e = says-as 31 FORLOOP (eqb-true (opcode p i) (numberOf FORLOOP) (flow-opcodes p i numeric-loop e)) (unfold rowOf in refl) (flow-test p i numeric-loop loose e refl) refl
-    says loop-entry e = says-as 32 FORPREP (eqb-true (opcode p i) (numberOf FORPREP) (flow-opcodes p i loop-entry e)) (unfold rowOf in refl) (flow-test p i loop-entry loose e refl) refl
     says skip e = says-other (flow-test p i skip others e refl)
+    says jump e = says-as JMP (flow-opcodes p i jump e) (flow-test p i jump loose e refl) refl
+    says test e = says-test (flow-test p i test loose e refl) (test-word k (flow-opcodes p i test e))
+    says test-set e = says-test (flow-test p i test-set loose e refl) (set-word k (eqb-true (opcode p i) (numberOf TESTSET) (flow-opcodes p i test-set e)))
+    says loop-entry e = says-as FORPREP (flow-opcodes p i loop-entry e) (flow-test p i loop-entry loose e refl) refl
+    says numeric-loop e = says-as FORLOOP (flow-opcodes p i numeric-loop e) (flow-test p i numeric-loop loose e refl) refl
+    says generic-loop e =
+        let two : A p i + 1 + 1 ≡ A p i + 2 = omega arith in
+        says-as TFORLOOP (flow-opcodes p i generic-loop e) (flow-test p i generic-loop loose e refl) (rw (two, registers-are (A p i + 3) (C p i) []ᵉ))
     says exit e = let c = eqb-true (opcode p i) (numberOf RETURN) (flow-opcodes p i exit e) in rw (op-is p i RETURN c) (says-return c)

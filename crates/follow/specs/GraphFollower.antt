@@ -53,13 +53,16 @@ unfoldable pub marks : Exprs → Exprs
 marks []ᵉ = []ᵉ
 marks (x ∷ᵉ xs) = marked x ∷ᵉ marks xs
 
--- the open results in a value, as actions before its user: those of its own arguments come first
+-- an open call: the open results among its arguments, and then itself
+abbrev pub open-call : Expr → Exprs → List (List Action) → List Action
+open-call f xs before = flatten before ++ only (opens (call f (marks xs)))
+
+-- the open results in a value, as actions before its user
 unfoldable pub opensOf : Expr → List Action
-opensOf = fold (λ f xs rs. flatten rs ++ only (opens (call f (marks xs)))) (only (opens vararg)) (λ x r. []) (λ o x. []) (λ x. [])
+opensOf = fold open-call (only (opens vararg)) (λ x r. []) (λ o x. []) (λ x. [])
 
 unfoldable pub opensIn : Exprs → List Action
-opensIn []ᵉ = []
-opensIn (x ∷ᵉ xs) = opensOf x ++ opensIn xs
+opensIn xs = flatten (folds open-call (only (opens vararg)) (λ x r. []) (λ o x. []) (λ x. []) xs)
 
 -- A call that is a statement, or that is assigned, is not open itself; its arguments may be.
 

@@ -38,7 +38,7 @@ letter-X = 88
 -- the digits of x, at most k of them, and then ds
 unfoldable pub digits : ℕ → ℕ → List ℕ → List ℕ
 digits zero x ds = ds
-digits (suc k) x ds = cond (ltb x 10) (digit x ∷ ds) (digits k (x / 10) (digit (x % 10) ∷ ds))
+digits (suc k) x ds = let more = digits k (x / 10) (digit (x % 10) ∷ ds) in cond (ltb x 10) (digit x ∷ ds) more
 
 -- x as a 'decimal number': 20 digits hold every number of 64 bits
 unfoldable pub decimal : ℕ → List ℕ

@@ -38,7 +38,8 @@ front p t =
 -- the block that an edge of word i leads to: a loop's Then edge may lead to its between block
 unfoldable pub leads : Proto → ℕ → Edge → Edge
 leads p i e =
-    record { kind = e .kind; to = cond (eqb (e .kind) 1 && diverted p i) (betweenOf p i) (blockOf p (e .to)) }
+    let by-way = betweenOf p i in
+    record { kind = e .kind; to = cond (eqb (e .kind) 1 && diverted p i) by-way (blockOf p (e .to)) }
 
 -- the block of the range that starts at j; of the one at n, 'its block has no edges'
 unfoldable pub codeBlock : Proto → ℕ → Block
