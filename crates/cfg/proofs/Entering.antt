@@ -1,5 +1,5 @@
 -- How many edges enter a block, and the Then edges of loops. Assumes nothing.
-use mathlib.Core.Bool.{Bool, true, false, cond}
+use mathlib.Core.Bool.{true, false, cond}
 use Rattle.lua51_deserializer.specs.Word.{numeric-loop, generic-loop, FORLOOP, TFORLOOP, numberOf, rowOf}
 use Prim.Native.Nat.{ℕ, _+_, _≤_, _<_}
 use native.Mathlib.Omega.{arith}

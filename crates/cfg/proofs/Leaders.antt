@@ -1,9 +1,9 @@
 -- Leaders, the ends of ranges, and block numbers. Assumes nothing.
-use mathlib.Core.Bool.{Bool, true, false, cond}
+use mathlib.Core.Bool.{true, false, cond}
 use Rattle.lua51_deserializer.specs.Word.{straight, skip, jump, test, test-set, loop-entry, numeric-loop, generic-loop, exit, RETURN, numberOf, Flow, rowOf}
 use Prim.Native.Nat.{ℕ, zero, suc, _+_, _-_, _≤_, _<_}
 use native.Mathlib.Omega.{arith}
-use mathlib.Core.Path.{_≡_, refl, ap}
+use mathlib.Core.Path.{_≡_, refl}
 use mathlib.Core.List.{List, [], _∷_}
 use lib.Dec.{ltb, eqb}
 use borrow.Author.Tests.{ltb-true, ltb-false, eqb-true, eqb-false, lt-ltb, eq-eqb, ne-eqb}
@@ -11,7 +11,7 @@ use Rattle.lua51_deserializer.specs.Proto.{Proto, flowAt, size, opcode, C, targ
 use Rattle.cfg.specs.Graph.{blockOf, leaderFrom, past, leader, claims}
 use Rattle.lua51_deserializer.proofs.Tests.{clash, either-way}
 use Rattle.lua51_deserializer.specs.Range.{sum, times, only}
-use Rattle.lua51_deserializer.proofs.Range.{times-here, sum-at, sum-split, sum-grows}
+use Rattle.lua51_deserializer.proofs.Range.{times-here, sum-at, sum-grows}
 use Rattle.lua51_deserializer.proofs.Table.{flow-is}
 
 -- from word i control goes on to the next word

@@ -1,5 +1,5 @@
 -- What stands at the front of a block, by the edge that enters it. Assumes nothing.
-use mathlib.Core.Bool.{Bool, true, false, cond, _&&_}
+use mathlib.Core.Bool.{true, false, cond, _&&_}
 use Rattle.lua51_deserializer.specs.Word.{test-set, TESTSET, numberOf, rowOf}
 use Prim.Native.Nat.{ℕ, _+_, _-_, _≤_, _<_}
 use native.Mathlib.Omega.{arith}
