@@ -1,6 +1,6 @@
 -- How many edges enter a block, and the Then edges of loops. Assumes nothing.
 use mathlib.Core.Bool.{true, false, cond}
-use Rattle.lua51_deserializer.specs.Word.{numeric-loop, generic-loop, FORLOOP, TFORLOOP, numberOf, rowOf}
+use Rattle.lua51_deserializer.specs.Word.{numeric-loop, generic-loop, FORLOOP, TFORLOOP, numberOf, rowOf, row, opOf}
 use Prim.Native.Nat.{ℕ, _+_, _≤_, _<_}
 use native.Mathlib.Omega.{arith}
 use mathlib.Core.Path.{_≡_, refl}
@@ -48,15 +48,15 @@ module _ (p : Proto) where
   pub loop-leads : (i : ℕ) → i < size p → isLoop p i ≡ true → leader p (i + 1) ≡ true
   unfolding claims
   loop-leads i lt h = loop-cases i h
-      (λ e. leader-claimed p i (i + 1) lt (rw (flow-is p i FORLOOP numeric-loop e (unfold rowOf in refl)) (times-here (i + 1) (i + 1) (only (target p i)) refl)))
-      (λ e. leader-claimed p i (i + 1) lt (rw (flow-is p i TFORLOOP generic-loop e (unfold rowOf in refl)) (times-here (i + 1) (i + 1) (only (i + 2)) refl)))
+      (λ e. leader-claimed p i (i + 1) lt (rw (flow-is p i FORLOOP numeric-loop e (unfold rowOf row opOf in refl)) (times-here (i + 1) (i + 1) (only (target p i)) refl)))
+      (λ e. leader-claimed p i (i + 1) lt (rw (flow-is p i TFORLOOP generic-loop e (unfold rowOf row opOf in refl)) (times-here (i + 1) (i + 1) (only (i + 2)) refl)))
 
   -- its Then edge goes where it says
   pub loop-sends : (i : ℕ) → isLoop p i ≡ true → 1 ≤ sent i (thenOf p i)
   unfolding sent leaving thenOf
   loop-sends i h = loop-cases i h
-      (λ e. rw (flow-is p i FORLOOP numeric-loop e (unfold rowOf in refl), e) (times-here (target p i) (target p i) (only (i + 1)) refl))
-      (λ e. rw (flow-is p i TFORLOOP generic-loop e (unfold rowOf in refl), e) (times-here (i + 1) (i + 1) (only (i + 2)) refl))
+      (λ e. rw (flow-is p i FORLOOP numeric-loop e (unfold rowOf row opOf in refl), e) (times-here (target p i) (target p i) (only (i + 1)) refl))
+      (λ e. rw (flow-is p i TFORLOOP generic-loop e (unfold rowOf row opOf in refl), e) (times-here (i + 1) (i + 1) (only (i + 2)) refl))
 
   -- a block that a loop's Then edge and another word's edge enter is entered more than once
   pub crowd : (i j t : ℕ) → i < size p → leader p (i + 1) ≡ true → 1 ≤ sent i t → (i ≡ j → ⊥) → j < size p → isLoop p j ≡ true → thenOf p j ≡ t → entering p t ≡ 1 → ⊥

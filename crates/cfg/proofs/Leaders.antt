@@ -1,6 +1,6 @@
 -- Leaders, the ends of ranges, and block numbers. Assumes nothing.
 use mathlib.Core.Bool.{true, false, cond}
-use Rattle.lua51_deserializer.specs.Word.{straight, skip, jump, test, test-set, loop-entry, numeric-loop, generic-loop, exit, RETURN, numberOf, Flow, rowOf}
+use Rattle.lua51_deserializer.specs.Word.{straight, skip, jump, test, test-set, loop-entry, numeric-loop, generic-loop, exit, RETURN, numberOf, Flow, rowOf, row, opOf}
 use Prim.Native.Nat.{ℕ, zero, suc, _+_, _-_, _≤_, _<_}
 use native.Mathlib.Omega.{arith}
 use mathlib.Core.Path.{_≡_, refl}
@@ -38,7 +38,7 @@ module _ (p : Proto) where
   unfolding claims
   end-leads some e =
       leader-claimed (size p - 1) (size p) (omega arith)
-      (rw (flow-is p (size p - 1) RETURN exit e (unfold rowOf in refl)) (times-here (size p) (size p - 1 + 1) [] (omega arith)))
+      (rw (flow-is p (size p - 1) RETURN exit e (unfold rowOf row opOf in refl)) (times-here (size p) (size p - 1 + 1) [] (omega arith)))
 
   -- a word behind which no range starts goes on to the next
   pub goes-onward : (i : ℕ) → i < size p → leader p (i + 1) ≡ false → Onward p i

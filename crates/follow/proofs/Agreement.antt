@@ -27,7 +27,7 @@ use Rattle.lua51_deserializer.proofs.Tests.{either-way, clash}
 use Rattle.follow.specs.Demand.{Agree}
 use Rattle.lua51_deserializer.proofs.Range.{over-split}
 use Rattle.lua51_lifter.proofs.Accepted.{end-leader, leader-takes-none, some-words, user-within}
-use Rattle.lua51_deserializer.proofs.Table.{allBelow, opcodes, flow-not}
+use Rattle.lua51_deserializer.proofs.Table.{allBelow, opcodesOf, flow-not}
 use Rattle.cfg.proofs.Entering.{loop-cases, diverted-loop}
 use Rattle.lua51_lifter.proofs.Blocks.{between-at, entry-at, code-at}
 use Rattle.lua51_lifter.proofs.Fronts.{entry-front, diverted-front}
@@ -164,7 +164,7 @@ module _ (p : Proto) where
       to-last = run p ok (last - t) t last k (omega (arith, range .from)) (omega (arith, range .within)) keeps-here before-last
 
       -- no capture is other than straight
-      unbound : (f : Flow) → flowAt p last ≡ f → allBelow (λ o. not (opcodes f o) || not (eqb o (numberOf MOVE))) 64 ≡ true → allBelow (λ o. not (opcodes f o) || not (eqb o (numberOf GETUPVAL))) 64 ≡ true → pending p last ≡ 0
+      unbound : (f : Flow) → flowAt p last ≡ f → allBelow (λ o. not (opcodesOf f o) || not (eqb o (numberOf MOVE))) 64 ≡ true → allBelow (λ o. not (opcodesOf f o) || not (eqb o (numberOf GETUPVAL))) 64 ≡ true → pending p last ≡ 0
       unbound f e a b = free p ok last (omega (arith, last-inside)) (flow-not p last f MOVE e a) (flow-not p last f GETUPVAL e b)
 
       code-follows : (f : Flow) → flowAt p last ≡ f → Follow

@@ -1,6 +1,6 @@
 -- The last word of a range: its block's edges and question are the word's own.
 use mathlib.Core.Bool.{true, false, not, cond, _&&_, _||_}
-use Rattle.lua51_deserializer.specs.Word.{straight, skip, jump, test, test-set, loop-entry, numeric-loop, generic-loop, exit, LOADBOOL, JMP, TESTSET, RETURN, FORLOOP, FORPREP, TFORLOOP, Flow, numberOf, Op, rowOf}
+use Rattle.lua51_deserializer.specs.Word.{straight, skip, jump, test, test-set, loop-entry, numeric-loop, generic-loop, exit, LOADBOOL, JMP, TESTSET, RETURN, FORLOOP, FORPREP, TFORLOOP, Flow, numberOf, Op, rowOf, row, opOf}
 use Rattle.ast.specs.Statement.{register}
 use Rattle.cfg.specs.Graph.{plain, then, else}
 use Rattle.cfg.proofs.Leaders.{Onward, straight-on, skips-none, leader-claimed}
@@ -20,7 +20,7 @@ use Rattle.follow.specs.GraphFollower.{nextBlock, actions, ending, insid
 use Rattle.cfg.proofs.Entering.{sent, loop-cases, undiverted}
 use Rattle.lua51_lifter.specs.Blocks.{leads, front}
 use Rattle.lua51_deserializer.specs.Range.{times, only}
-use Rattle.lua51_deserializer.proofs.Table.{allBelow, opcodes, flow-not, flow-opcodes, flow-is, op-is, flow-test}
+use Rattle.lua51_deserializer.proofs.Table.{allBelow, opcodesOf, flow-not, flow-opcodes, flow-is, op-is, flow-test}
 use Rattle.lua51_deserializer.proofs.Range.{times-second, times-here, times-both}
 use Rattle.follow.proofs.Statements.{acts}
 use Rattle.lua51_lifter.proofs.Accepted.{lands, not-last}
@@ -54,7 +54,7 @@ module _ (p : Proto) where
   then-each i e = rw e
 
   -- a word of another flow is no loop
-  unlooped : (i : ℕ) (f : Flow) → flowAt p i ≡ f → allBelow (λ o. not (opcodes f o) || not (eqb o (numberOf FORLOOP) || eqb o (numberOf TFORLOOP))) 64 ≡ true → isLoop p i ≡ false
+  unlooped : (i : ℕ) (f : Flow) → flowAt p i ≡ f → allBelow (λ o. not (opcodesOf f o) || not (eqb o (numberOf FORLOOP) || eqb o (numberOf TFORLOOP))) 64 ≡ true → isLoop p i ≡ false
   unfolding isLoop
   unlooped i f e h = not-is _ (flow-test p i f (λ o. not (eqb o (numberOf FORLOOP) || eqb o (numberOf TFORLOOP))) e h)
 
@@ -121,9 +121,9 @@ module _ (p : Proto) where
     pub then-lands : isLoop p i ≡ true → (thenOf p i < size p) × (leader p (thenOf p i) ≡ true) × (0 < thenOf p i → opcode p (thenOf p i - 1) ≡ numberOf TESTSET → ⊥)
     unfolding landsInside claims reaches
     then-lands h = loop-cases p i h
-        (λ c. let e = flow-is p i FORLOOP numeric-loop c (unfold rowOf in refl) in
+        (λ c. let e = flow-is p i FORLOOP numeric-loop c (unfold rowOf row opOf in refl) in
         rw (then-target i c) (jump-lands numeric-loop e refl, jump-leads numeric-loop e refl, unset-reach p ok i (target p i) lt (jump-lands numeric-loop e refl) (rw e (times-here (target p i) (target p i) [] refl))))
-        (λ c. let e = flow-is p i TFORLOOP generic-loop c (unfold rowOf in refl) in
+        (λ c. let e = flow-is p i TFORLOOP generic-loop c (unfold rowOf row opOf in refl) in
         rw (then-next i c) (omega (arith, test-two generic-loop e refl), test-next generic-loop e refl, unset-next p i (flow-not p i generic-loop TESTSET e refl)))
 
     then-arrival : isLoop p i ≡ true → Alongside p (cond (diverted p i) (betweenOf p i) (blockOf p (thenOf p i))) (record { owes = acts (onThen p i); word = thenOf p i; kept = 0 })

@@ -1,7 +1,7 @@
 -- What a word writes is what its statements do: for each word by itself, an opener's action being carried to its user.
 -- Assumes nothing.
 use mathlib.Core.Bool.{Bool, true, false, not, cond, _&&_, _||_, false≢true}
-use Rattle.lua51_deserializer.specs.Word.{flag, straight, skip, jump, test, test-set, loop-entry, numeric-loop, generic-loop, exit, MOVE, LOADK, LOADBOOL, LOADNIL, GETUPVAL, GETGLOBAL, GETTABLE, SETGLOBAL, SETUPVAL, SETTABLE, NEWTABLE, SELF, ADD, SUB, MUL, DIV, MOD, POW, UNM, NOT, LEN, CONCAT, JMP, EQ, LT, LE, TEST, TESTSET, CALL, TAILCALL, RETURN, FORLOOP, FORPREP, TFORLOOP, SETLIST, CLOSE, CLOSURE, VARARG, UNKNOWN, numberOf, Op, Flow, rowOf, Row, rows}
+use Rattle.lua51_deserializer.specs.Word.{flag, straight, skip, jump, test, test-set, loop-entry, numeric-loop, generic-loop, exit, MOVE, LOADK, LOADBOOL, LOADNIL, GETUPVAL, GETGLOBAL, GETTABLE, SETGLOBAL, SETUPVAL, SETTABLE, NEWTABLE, SELF, ADD, SUB, MUL, DIV, MOD, POW, UNM, NOT, LEN, CONCAT, JMP, EQ, LT, LE, TEST, TESTSET, CALL, TAILCALL, RETURN, FORLOOP, FORPREP, TFORLOOP, SETLIST, CLOSE, CLOSURE, VARARG, UNKNOWN, numberOf, Op, Flow, rowOf, row, opOf}
 use Rattle.ast.specs.Statement.{register, constant, call, []ᵉ, _∷ᵉ_, Expr, registers, binary, vararg, Exprs, assign, op-concat, set-register, mark, if-statement, one, nil, index, op-equal, op-less, op-less-or-equal}
 use Prim.Native.Nat.{ℕ, zero, suc, _+_, _-_, _*_, _<_}
 use native.Mathlib.Omega.{arith}
@@ -21,7 +21,6 @@ use Rattle.lua51_deserializer.proofs.Tests.{not-is, or-right, or-left, and-left
 use Rattle.follow.proofs.Statements.{acts, Plain, Quiet, plain-acts, quiet-cond, plain-quiet}
 use Rattle.lua51_lifter.proofs.Accepted.{no-user, opener-used, user-after, inside-c, inside-a, opcode-known, closure-captures}
 use Rattle.cfg.specs.Graph.{leader}
-use lib.ListN.{getD}
 
 -- ------------------------------------------------------------ expressions
 
@@ -72,15 +71,9 @@ rk-is : (x : ℕ) → rk x ≡ RK x
 unfolding rk RK
 rk-is x = refl
 
--- the table's names, by themselves
-names-are : (rs : List Row) (d : Row) (o : ℕ) → getD rs o d .op ≡ getD (map (λ (r : Row). r .op) rs) o (d .op)
-names-are [] d o = refl
-names-are (r ∷ rs) d zero = refl
-names-are (r ∷ rs) d (suc o) = names-are rs d o
-
 pub named-is : (p : Proto) (i : ℕ) → i < size p → named p i ≡ opAt p i
-unfolding named rowOf
-named-is p i lt = rw (lt-ltb i (size p) lt) (sym (names-are rows _ (opcode p i)))
+unfolding named opOf
+named-is p i lt = rw (lt-ltb i (size p) lt)
 
 registers-are : (r n : ℕ) (xs : Exprs) → registers r n xs ≡ slots r n xs
 unfolding registers slots
@@ -232,12 +225,12 @@ module _ (p : Proto) (ok : check p ≡ fine) (i : ℕ) (lt : i < size p) where
   pub test-word : (k : ℕ) → among (EQ ∷ LT ∷ LE ∷ TEST ∷ []) (opcode p i) ≡ true → Test p i k (opAt p i) (at (i + 1) 0)
   unfolding statementsBy doing bare fold
   test-word k h =
-      or-cases (is p i EQ) _ h (λ e. compared EQ op-equal e (unfold rowOf in refl) refl (simp rk-is)) (λ h.
-      or-cases (is p i LT) _ h (λ e. compared LT op-less e (unfold rowOf in refl) refl (simp rk-is)) (λ h.
-      or-cases (is p i LE) _ h (λ e. compared LE op-less-or-equal e (unfold rowOf in refl) refl (simp rk-is)) (λ h.
+      or-cases (is p i EQ) _ h (λ e. compared EQ op-equal e (unfold rowOf row opOf in refl) refl (simp rk-is)) (λ h.
+      or-cases (is p i LT) _ h (λ e. compared LT op-less e (unfold rowOf row opOf in refl) refl (simp rk-is)) (λ h.
+      or-cases (is p i LE) _ h (λ e. compared LE op-less-or-equal e (unfold rowOf row opOf in refl) refl (simp rk-is)) (λ h.
       or-cases (is p i TEST) _ h
       (λ e. let q = eqb-true (opcode p i) (numberOf TEST) e in
-      rw (op-is p i TEST q) (record { of = register (A p i); flag = C p i; small = flag-c TEST q (unfold rowOf in refl); said = refl; done = refl; plainly = refl }))
+      rw (op-is p i TEST q) (record { of = register (A p i); flag = C p i; small = flag-c TEST q (unfold rowOf row opOf in refl); said = refl; done = refl; plainly = refl }))
       (λ h. absurd (false≢true h)))))
     where
       compared : (o : Op) (op : ℕ) → is p i o ≡ true → rowOf (numberOf o) .a ≡ flag → statementsBy p i o ≡ comparison p i op → doing p i k o ≡ testing p i k (holds (binary op (rk (B p i)) (rk (C p i)))) (A p i) (at (i + 1) 0) → Test p i k (opAt p i) (at (i + 1) 0)
@@ -247,7 +240,7 @@ module _ (p : Proto) (ok : check p ≡ fine) (i : ℕ) (lt : i < size p) where
 
   pub set-word : (k : ℕ) → opcode p i ≡ numberOf TESTSET → Test p i k (opAt p i) (owing (only (sets (A p i) (register (B p i)))) (i + 1))
   unfolding statementsBy doing bare fold
-  set-word k e = rw (op-is p i TESTSET e) (record { of = register (B p i); flag = C p i; small = flag-c TESTSET e (unfold rowOf in refl); said = refl; done = refl; plainly = refl })
+  set-word k e = rw (op-is p i TESTSET e) (record { of = register (B p i); flag = C p i; small = flag-c TESTSET e (unfold rowOf row opOf in refl); said = refl; done = refl; plainly = refl })
 
   -- the cases of such other words
   by-opcode : {T : Type 0} → others (opcode p i) ≡ true → (opcode p i ≡ numberOf CALL → T) → (opcode p i ≡ numberOf TAILCALL → T) → (opcode p i ≡ numberOf SETLIST → T) → (opcode p i ≡ numberOf VARARG → T) → (ordinary (opcode p i) ≡ true → T) → T
@@ -268,7 +261,7 @@ module _ (p : Proto) (ok : check p ≡ fine) (i : ℕ) (lt : i < size p) where
 
   -- CONCAT's B is below its C
   in-order : opcode p i ≡ numberOf CONCAT → C p i + 1 - B p i ≡ suc (C p i - B p i)
-  in-order e = unfold operand rowOf in
+  in-order e = unfold operand rowOf row opOf in
       omega (arith, ltb-true (B p i) (C p i) (and-left (ltb (B p i) (C p i)) _ (rw e at (inside-c p ok i lt))))
 
   -- where such a word goes, as the operation o
@@ -418,7 +411,7 @@ module _ (p : Proto) (ok : check p ≡ fine) (i : ℕ) (lt : i < size p) where
         takes-it b = unfold carried in rw (u, b)
 
         some : 0 < C p i
-        some = unfold operand rowOf in ltb-true 0 (C p i) (rw e at (inside-c p ok i lt))
+        some = unfold operand rowOf row opOf in ltb-true 0 (C p i) (rw e at (inside-c p ok i lt))
 
         from : (C p i - 1) * 50 + 1 ≡ 50 * C p i - 49
         from = omega (arith, some)

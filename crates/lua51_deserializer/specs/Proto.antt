@@ -4,7 +4,7 @@ use mathlib.Core.Bool.{Bool}
 use mathlib.Core.List.{List}
 use lib.Dec.{eqb}
 use lib.ListN.{getD, length}
-use Rattle.lua51_deserializer.specs.Word.{Op, Flow, numberOf, rowOf, fieldOpcode, fieldA, fieldB, fieldC, fieldBx, bias}
+use Rattle.lua51_deserializer.specs.Word.{Op, Flow, numberOf, opOf, rowOf, fieldOpcode, fieldA, fieldB, fieldC, fieldBx, bias}
 
 -- A function as numbers and lists of numbers.
 pub record Proto : Type 0 where
@@ -54,7 +54,7 @@ is p i o = eqb (opcode p i) (numberOf o)
 
 -- what the table says of word i
 abbrev pub opAt : Proto → ℕ → Op
-opAt p i = rowOf (opcode p i) .op
+opAt p i = opOf (opcode p i)
 
 abbrev pub flowAt : Proto → ℕ → Flow
 flowAt p i = rowOf (opcode p i) .flow

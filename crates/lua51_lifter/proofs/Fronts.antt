@@ -1,6 +1,6 @@
 -- What stands at the front of a block, by the edge that enters it. Assumes nothing.
 use mathlib.Core.Bool.{true, false, cond, _&&_}
-use Rattle.lua51_deserializer.specs.Word.{test-set, TESTSET, numberOf, rowOf}
+use Rattle.lua51_deserializer.specs.Word.{test-set, TESTSET, numberOf, rowOf, row, opOf}
 use Prim.Native.Nat.{ℕ, _+_, _-_, _≤_, _<_}
 use native.Mathlib.Omega.{arith}
 use mathlib.Core.Path.{_≡_, refl, sym, _∙_}
@@ -81,11 +81,11 @@ module _ (p : Proto) where
 
   set-leads : (i : ℕ) → i < size p → opcode p i ≡ numberOf TESTSET → leader p (i + 1) ≡ true
   unfolding claims
-  set-leads i lt e = leader-claimed p i (i + 1) lt (rw (flow-is p i TESTSET test-set e (unfold rowOf in refl)) (times-here (i + 1) (i + 1) (only (i + 2)) refl))
+  set-leads i lt e = leader-claimed p i (i + 1) lt (rw (flow-is p i TESTSET test-set e (unfold rowOf row opOf in refl)) (times-here (i + 1) (i + 1) (only (i + 2)) refl))
 
   set-sends : (i : ℕ) → opcode p i ≡ numberOf TESTSET → 1 ≤ sent p i (i + 1)
   unfolding sent leaving
-  set-sends i e = rw (flow-is p i TESTSET test-set e (unfold rowOf in refl)) (times-here (i + 1) (i + 1) (only (i + 2)) refl)
+  set-sends i e = rw (flow-is p i TESTSET test-set e (unfold rowOf row opOf in refl)) (times-here (i + 1) (i + 1) (only (i + 2)) refl)
 
   -- TESTSET is no loop
   set-other : (i j : ℕ) → opcode p i ≡ numberOf TESTSET → isLoop p j ≡ true → i ≡ j → ⊥
