@@ -1,0 +1,72 @@
+-- All cases of the table hold: one computed test over each list, and a law that turns the test into the claim.
+-- Assumes nothing.
+use Prim.Native.Nat.{ℕ}
+use mathlib.Core.Bool.{Bool, true, false, _&&_, false≢true}
+use mathlib.Core.Path.{_≡_, refl}
+use mathlib.Core.List.{List, [], _∷_, flatMap, flatten}
+use lib.Dec.{eqb}
+use borrow.Author.Tests.{eqb-true}
+use Rattle.lua51_deserializer.proofs.Tests.{and-left, and-right}
+use Rattle.lines.specs.Line.{digits, decimal, column, line}
+use Rattle.lua51_deserializer.specs.Range.{over, sum, times}
+use Rattle.lua51_deserializer.specs.Word.{opOf, row, rowOf}
+use Rattle.lua51_deserializer.specs.Chunk.{again, intAt, field, limited, counted, body, string, present, constantOf, constant, head, code, constants, lines, locals, names, many, begin, nest, finish, function, exactly, signature, ends, walk, kindOf, ints, valueAt, valuesAt, nestedIn, constantsAt, protoAt}
+use Rattle.ast.specs.Statement.{count, expr, exprs, tail, run, registers}
+use Rattle.cfg.specs.Graph.{claims, leader, blockOf, leaderFrom, past, leaving, exits, entering, isLoop, thenOf, diverted, betweenOf}
+use Rattle.lua51_lifter.specs.Check.{first, headFault, lastFault, operand, operandFault, landsInside, tests, wordVerdict, opener, user, slot, matches, unused-results, missing-results, allCaptures, reaches, reached, useVerdict, check}
+use Rattle.lua51_lifter.specs.Lift.{rk, condition, concatenated, captures, taken, opened, statementsBy, pending, statements, onThen}
+use Rattle.lua51_lifter.specs.Blocks.{front, leads, codeBlock, entryBlock, betweenBlock, graph}
+use Rattle.lua51_lifter.specs.Listing.{value, constantLines, statementLine, edgeLine, blockLine, blockLines, listing}
+use Rattle.reading.specs.Reading.{judgeFrom, judgeRead, judge, listingOf}
+use Rattle.reading.specs.Program.{listings, piecesFor, pieces}
+use Rattle.follow.specs.Account.{onward, account}
+use Rattle.follow.specs.GraphFollower.{fold, folds, marked, marks, opensOf, opensIn, inside, outside, insides, outsides, tailOpens, tailMarked, actions, bare, endingOf, ending, answered, nextBlock, graphStep, byGraph}
+use Rattle.follow.specs.WordFollower.{named, RK, jumped, upward, slots, nils, strung, captured, takes, testing, doing, wordStepFrom, wordStep, byWords}
+use Rattle.cases.specs.Make.{int, function as make-function, chunk, bytes}
+use Rattle.cases.specs.Cases.{answerNumbers, eventNumbers, functionOf, blockOf as cases-blockOf, told, Case, AllHold}
+use Rattle.cases.specs.Table.{return-alone, return-listing, equal-jump, equal-back, numeric-for, loop-onward, loop-first, three-deep, proved-cases, jump-over-listing, slip-cases, listing-0, listing-1, listing-2, nested-cases, cases}
+
+-- ------------------------------------------------------------ the test
+
+-- two lists of numbers are the same
+abbrev same : List ℕ → List ℕ → Bool
+same [] [] = true
+same [] (y ∷ ys) = false
+same (x ∷ xs) [] = false
+same (x ∷ xs) (y ∷ ys) = eqb x y && same xs ys
+
+same-is : (xs ys : List ℕ) → same xs ys ≡ true → xs ≡ ys
+same-is [] [] h = refl
+same-is [] (y ∷ ys) h = absurd (false≢true h)
+same-is (x ∷ xs) [] h = absurd (false≢true h)
+same-is (x ∷ xs) (y ∷ ys) h = λ i. eqb-true x y (and-left (eqb x y) (same xs ys) h) i ∷ same-is xs ys (and-right (eqb x y) (same xs ys) h) i
+
+-- every case of a list comes out as expected
+abbrev as-expected : List Case → Bool
+as-expected [] = true
+as-expected (c ∷ cs) = same (told (c .chunk) (c .asked)) (c .expected) && as-expected cs
+
+hold : (cs : List Case) → as-expected cs ≡ true → AllHold cs
+hold [] h = tt
+hold (c ∷ cs) h =
+    let mine : Bool = same (told (c .chunk) (c .asked)) (c .expected) in
+    (same-is (told (c .chunk) (c .asked)) (c .expected) (and-left mine (as-expected cs) h), hold cs (and-right mine (as-expected cs) h))
+
+-- ------------------------------------------------------------ the theorem
+
+pub all-hold : AllHold cases
+unfolding flatMap flatten digits decimal column line over sum times opOf row rowOf again intAt field limited counted body
+    string present constantOf constant head code constants lines locals names many begin nest finish function
+    exactly signature ends walk kindOf ints valueAt valuesAt nestedIn constantsAt protoAt count expr exprs tail run
+    registers claims leader blockOf leaderFrom past leaving exits entering isLoop thenOf diverted betweenOf first
+    headFault lastFault operand operandFault landsInside tests wordVerdict opener user slot matches unused-results
+    missing-results allCaptures reaches reached useVerdict check rk condition concatenated captures taken opened
+    statementsBy pending statements onThen front leads codeBlock entryBlock betweenBlock graph value constantLines
+    statementLine edgeLine blockLine blockLines listing judgeFrom judgeRead judge listingOf listings piecesFor
+    pieces onward account fold folds marked marks opensOf opensIn inside outside insides outsides tailOpens
+    tailMarked actions bare endingOf ending answered nextBlock graphStep byGraph named RK jumped upward slots nils
+    strung captured takes testing doing wordStepFrom wordStep byWords int make-function chunk bytes answerNumbers
+    eventNumbers functionOf cases-blockOf told return-alone return-listing equal-jump equal-back numeric-for
+    loop-onward loop-first three-deep proved-cases jump-over-listing slip-cases listing-0 listing-1 listing-2
+    nested-cases cases
+all-hold = hold cases refl

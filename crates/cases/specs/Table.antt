@@ -1,0 +1,176 @@
+-- The table of cases: document 01's P1 to P10, a case for each of its slips, and functions that may not be confused.
+use mathlib.Core.Bool.{true}
+use mathlib.Core.List.{List, [], _∷_, _++_}
+use Prim.Native.Nat.{ℕ}
+use Rattle.lua51_deserializer.specs.Word.{MOVE, LOADK, LOADBOOL, GETUPVAL, JMP, EQ, CALL, RETURN, FORLOOP, FORPREP, SETLIST, CLOSURE}
+use Rattle.lua51_deserializer.specs.Chunk.{header}
+use Rattle.cases.specs.Make.{abc, abx, jumps, function, chunk, bytes}
+use Rattle.cases.specs.Cases.{Case, Asked, judged, listed, printed, statements, edges, by-graph, by-words}
+
+abbrev case : List ℕ → Asked → List ℕ → Case
+case s asked expected = record { chunk = s; asked = asked; expected = expected }
+
+-- RETURN 0 1
+abbrev return : ℕ
+return = abc RETURN 0 1 0
+
+-- ------------------------------------------------------------ chunks of more than one use
+
+-- 'For RETURN 0 1, stack 2'
+unfoldable pub return-alone : List ℕ
+return-alone = chunk 2 (return ∷ [])
+
+unfoldable pub return-listing : List ℕ
+return-listing =
+    bytes "F      0      0      0      2\n"
+    ++ bytes "B      0      0      1      0\n"
+    ++ bytes "S      4      0\n"
+    ++ bytes "B      1      1      1      0\n"
+    ++ bytes "B      2      1      1      1\n"
+    ++ bytes "S      1      1      1      1      0      3\n"
+    ++ bytes "S      1      1      1      1      1      3\n"
+    ++ bytes "E      0      0\n"
+
+-- EQ 0 0 0, JMP 0, RETURN
+unfoldable pub equal-jump : List ℕ
+equal-jump = chunk 1 (abc EQ 0 0 0 ∷ jumps JMP 0 1 2 ∷ return ∷ [])
+
+-- the same with a jump back to the comparison
+unfoldable pub equal-back : List ℕ
+equal-back = chunk 1 (abc EQ 0 0 0 ∷ jumps JMP 0 1 0 ∷ return ∷ [])
+
+-- FORPREP to 1, FORLOOP to 1, RETURN
+unfoldable pub numeric-for : List ℕ
+numeric-for = chunk 4 (jumps FORPREP 0 0 1 ∷ jumps FORLOOP 0 1 1 ∷ return ∷ [])
+
+-- FORLOOP to the next word
+unfoldable pub loop-onward : List ℕ
+loop-onward = chunk 4 (jumps FORLOOP 0 0 1 ∷ return ∷ [])
+
+-- FORLOOP to word 0, itself
+unfoldable pub loop-first : List ℕ
+loop-first = chunk 4 (jumps FORLOOP 0 0 0 ∷ return ∷ [])
+
+-- a function in a function in main, each with its own head and words; main has a constant, a NaN
+unfoldable pub three-deep : List ℕ
+three-deep =
+    let inner = function 1 0 0 1 (abc GETUPVAL 0 0 0 ∷ abc RETURN 0 2 0 ∷ []) [] [] in
+    let outer = function 0 2 0 3 (abx CLOSURE 2 0 ∷ abc MOVE 0 1 0 ∷ abc RETURN 2 2 0 ∷ []) [] (inner ∷ []) in
+    let not-a-number : List ℕ = 3 ∷ 1 ∷ 2 ∷ 3 ∷ 4 ∷ 5 ∷ 6 ∷ 0xF8 ∷ 0x7F ∷ [] in
+    header ++ function 0 0 0 2 (abx CLOSURE 0 0 ∷ abx LOADK 1 0 ∷ return ∷ []) (not-a-number ∷ []) (outer ∷ [])
+
+-- ------------------------------------------------------------ P1 to P10
+
+unfoldable pub proved-cases : List Case
+proved-cases =
+    -- P1: 'no words: 8, place 0'
+    case (chunk 1 []) judged (8 ∷ 0 ∷ 0 ∷ []) ∷
+    -- P2: 'above'
+    case return-alone (listed 0) return-listing ∷
+    -- P3: 'JMP to n − 1 stands, to n is 10'
+    case (chunk 1 (jumps JMP 0 0 1 ∷ return ∷ [])) judged (1 ∷ []) ∷
+    case (chunk 1 (jumps JMP 0 0 2 ∷ return ∷ [])) judged (10 ∷ 0 ∷ 0 ∷ []) ∷
+    -- P4: 'EQ 0 0 0, JMP 0, RETURN: `3 8 1 9 8 1 0 1 0`'
+    case equal-jump (statements 0 0) (3 ∷ 8 ∷ 1 ∷ 9 ∷ 8 ∷ 1 ∷ 0 ∷ 1 ∷ 0 ∷ []) ∷
+    -- P5: 'block 1 goes Then to between 5, Else to 2; 5 goes to 1'
+    case numeric-for (edges 0 1) (1 ∷ 5 ∷ 2 ∷ 2 ∷ []) ∷
+    case numeric-for (edges 0 5) (0 ∷ 1 ∷ []) ∷
+    -- P6: 'FORLOOP to the next word: Else skips the between'
+    case loop-onward (edges 0 0) (1 ∷ 4 ∷ 2 ∷ 1 ∷ []) ∷
+    case loop-onward (edges 0 4) (0 ∷ 1 ∷ []) ∷
+    -- P7: 'skipping LOADBOOL at n − 2: 10'
+    case (chunk 1 (abc LOADBOOL 0 0 1 ∷ return ∷ [])) judged (10 ∷ 0 ∷ 0 ∷ []) ∷
+    -- P8: 'SETLIST C 511: index 25,501; C 0: 9'
+    case (chunk 2 (abc SETLIST 0 1 511 ∷ return ∷ [])) (statements 0 0) (7 ∷ 0 ∷ 25501 ∷ 1 ∷ 1 ∷ 1 ∷ 0 ∷ 4 ∷ 0 ∷ []) ∷
+    case (chunk 2 (abc SETLIST 0 1 0 ∷ return ∷ [])) judged (9 ∷ 0 ∷ 0 ∷ []) ∷
+    -- P9: 'CALL 0 1 0, RETURN 0 0, RETURN 0 1: `4 1 10 1 0 0`; without its user, 12'
+    case (chunk 1 (abc CALL 0 1 0 ∷ abc RETURN 0 0 0 ∷ return ∷ [])) (statements 0 0) (4 ∷ 1 ∷ 10 ∷ 1 ∷ 0 ∷ 0 ∷ []) ∷
+    case (chunk 1 (abc CALL 0 1 0 ∷ return ∷ [])) judged (12 ∷ 0 ∷ 0 ∷ []) ∷
+    -- P10: 'stack 250 stands, 251 is 7'. Its lengths are in Lengths
+    case (chunk 250 (return ∷ [])) judged (1 ∷ []) ∷
+    case (chunk 251 (return ∷ [])) judged (7 ∷ 0 ∷ 0 ∷ []) ∷ []
+
+-- ------------------------------------------------------------ document 01's slips
+
+unfoldable pub jump-over-listing : List ℕ
+jump-over-listing =
+    bytes "F      0      0      0      1\n"
+    ++ bytes "B      0      0      1      0\n"
+    ++ bytes "E      0      2\n"
+    ++ bytes "B      1      1      2      0\n"
+    ++ bytes "S      1      1      1      1      0      1      0\n"
+    ++ bytes "E      0      2\n"
+    ++ bytes "B      2      2      3      0\n"
+    ++ bytes "S      4      0\n"
+    ++ bytes "B      3      3      3      0\n"
+    ++ bytes "B      4      3      3      1\n"
+    ++ bytes "S      1      1      1      1      0      3\n"
+    ++ bytes "E      0      0\n"
+
+unfoldable pub slip-cases : List Case
+slip-cases =
+    -- 'leaving out the empty block at n': it stands between the last range and the entry
+    case return-alone printed return-listing ∷
+    -- 'leaving the entry's edge out of the count of entering edges': two edges enter block 0, so its loop has a between
+    case loop-first (edges 0 0) (1 ∷ 4 ∷ 2 ∷ 1 ∷ []) ∷
+    case loop-first (statements 0 4) (1 ∷ 1 ∷ 1 ∷ 1 ∷ 3 ∷ 1 ∷ 0 ∷ []) ∷
+    -- 'taking the Then side for a yes when Not is shown': a yes leads past the jump
+    case equal-jump (by-graph 0 (true ∷ [])) (1 ∷ 1 ∷ 1 ∷ 1 ∷ 1 ∷ 0 ∷ 3 ∷ 3 ∷ 9 ∷ 8 ∷ 1 ∷ 0 ∷ 1 ∷ 0 ∷ 5 ∷ 1 ∷ 1 ∷ 4 ∷ 0 ∷ 7 ∷ []) ∷
+    case equal-jump (by-words 0 (true ∷ [])) (1 ∷ 1 ∷ 1 ∷ 1 ∷ 1 ∷ 0 ∷ 3 ∷ 3 ∷ 9 ∷ 8 ∷ 1 ∷ 0 ∷ 1 ∷ 0 ∷ 5 ∷ 1 ∷ 1 ∷ 4 ∷ 0 ∷ 7 ∷ []) ∷
+    case equal-back (by-graph 0 (true ∷ [])) (1 ∷ 1 ∷ 1 ∷ 1 ∷ 1 ∷ 0 ∷ 3 ∷ 3 ∷ 9 ∷ 8 ∷ 1 ∷ 0 ∷ 1 ∷ 0 ∷ 5 ∷ 1 ∷ 1 ∷ 4 ∷ 0 ∷ 7 ∷ []) ∷
+    case equal-back (by-words 0 (true ∷ [])) (1 ∷ 1 ∷ 1 ∷ 1 ∷ 1 ∷ 0 ∷ 3 ∷ 3 ∷ 9 ∷ 8 ∷ 1 ∷ 0 ∷ 1 ∷ 0 ∷ 5 ∷ 1 ∷ 1 ∷ 4 ∷ 0 ∷ 7 ∷ []) ∷
+    -- 'numbering blocks as found': a jump over a word finds its target first
+    case (chunk 1 (jumps JMP 0 0 2 ∷ abc MOVE 0 0 0 ∷ return ∷ [])) (listed 0) jump-over-listing ∷ []
+
+-- ------------------------------------------------------------ three functions, two deep, of which none stands for another
+
+unfoldable pub listing-0 : List ℕ
+listing-0 =
+    bytes "F      0      0      0      2\n"
+    ++ bytes "K      0      3  32760   1541   1027    513\n"
+    ++ bytes "B      0      0      3      0\n"
+    ++ bytes "S      1      1      1      1      0     12      1      0\n"
+    ++ bytes "S      1      1      1      1      1      2      0\n"
+    ++ bytes "S      4      0\n"
+    ++ bytes "B      1      3      3      0\n"
+    ++ bytes "B      2      3      3      1\n"
+    ++ bytes "S      1      1      1      1      0      3\n"
+    ++ bytes "S      1      1      1      1      1      3\n"
+    ++ bytes "E      0      0\n"
+
+unfoldable pub listing-1 : List ℕ
+listing-1 =
+    bytes "F      1      2      0      3\n"
+    ++ bytes "B      0      0      3      0\n"
+    ++ bytes "S      1      1      1      1      2     12      2      1      1      1\n"
+    ++ bytes "S      4      1      1      2\n"
+    ++ bytes "B      1      3      3      0\n"
+    ++ bytes "B      2      3      3      1\n"
+    ++ bytes "S      1      1      1      1      2      3\n"
+    ++ bytes "E      0      0\n"
+
+unfoldable pub listing-2 : List ℕ
+listing-2 =
+    bytes "F      2      0      1      1\n"
+    ++ bytes "B      0      0      2      0\n"
+    ++ bytes "S      1      1      1      1      0      5      0\n"
+    ++ bytes "S      4      1      1      0\n"
+    ++ bytes "B      1      2      2      0\n"
+    ++ bytes "B      2      2      2      1\n"
+    ++ bytes "S      1      1      1      1      0      3\n"
+    ++ bytes "E      0      0\n"
+
+unfoldable pub nested-cases : List Case
+nested-cases =
+    case three-deep judged (3 ∷ []) ∷
+    case three-deep (listed 0) listing-0 ∷
+    case three-deep (listed 1) listing-1 ∷
+    case three-deep (listed 2) listing-2 ∷
+    case three-deep printed (listing-0 ++ listing-1 ++ listing-2) ∷
+    -- a refused chunk prints its X line alone
+    case (chunk 1 []) printed (bytes "X      8      0      0\n") ∷ []
+
+-- ------------------------------------------------------------ all
+
+unfoldable pub cases : List Case
+cases = proved-cases ++ slip-cases ++ nested-cases
