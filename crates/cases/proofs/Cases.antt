@@ -22,7 +22,8 @@ use Rattle.reading.specs.Program.{listings, piecesFor, pieces}
 use Rattle.follow.specs.Account.{onward, account}
 use Rattle.follow.specs.GraphFollower.{fold, folds, marked, marks, opensOf, opensIn, inside, outside, insides, outsides, tailOpens, tailMarked, actions, bare, endingOf, ending, answered, nextBlock, graphStep, byGraph}
 use Rattle.follow.specs.WordFollower.{named, RK, jumped, upward, slots, nils, strung, captured, takes, testing, doing, wordStepFrom, wordStep, byWords}
-use Rattle.cases.specs.Make.{int, function as make-function, chunk, bytes}
+use Rattle.lines.specs.Text.{bytes}
+use Rattle.cases.specs.Make.{int, function as make-function, chunk}
 use Rattle.cases.specs.Cases.{answerNumbers, eventNumbers, functionOf, blockOf as cases-blockOf, told, Case, AllHold}
 use Rattle.cases.specs.Table.{return-alone, return-listing, equal-jump, equal-back, numeric-for, loop-onward, loop-first, three-deep, proved-cases, jump-over-listing, slip-cases, listing-0, listing-1, listing-2, nested-cases, cases}
 

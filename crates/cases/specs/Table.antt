@@ -4,7 +4,9 @@ use mathlib.Core.List.{List, [], _∷_, _++_}
 use Prim.Native.Nat.{ℕ}
 use Rattle.lua51_deserializer.specs.Word.{MOVE, LOADK, LOADBOOL, GETUPVAL, JMP, EQ, CALL, RETURN, FORLOOP, FORPREP, SETLIST, CLOSURE}
 use Rattle.lua51_deserializer.specs.Chunk.{header}
-use Rattle.cases.specs.Make.{abc, abx, jumps, function, chunk, bytes}
+use Rattle.lines.specs.Text.{bytes}
+use Rattle.lua51_deserializer.specs.Encode.{abc, abx, jumps}
+use Rattle.cases.specs.Make.{function, chunk}
 use Rattle.cases.specs.Cases.{Case, Asked, judged, listed, printed, statements, edges, by-graph, by-words}
 
 abbrev case : List ℕ → Asked → List ℕ → Case

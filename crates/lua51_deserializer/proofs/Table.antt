@@ -4,7 +4,7 @@ use Prim.Native.Nat.{ℕ, _≤_, _<_, _+_, zero, suc}
 use mathlib.Core.List.{List, foldr, _∷_, []}
 use Rattle.lua51_deserializer.specs.Word.{straight, skip, jump, test, test-set, loop-entry, numeric-loop, generic-loop, exit, opOf, row}
 use Rattle.lua51_deserializer.specs.Word.{rowOf, Flow, Op, numberOf, LOADBOOL, bias, UNKNOWN, JMP, EQ, LT, LE, TEST, TESTSET, RETURN, FORLOOP, MOVE, LOADK, LOADNIL, GETUPVAL, GETGLOBAL, GETTABLE, SETGLOBAL, SETUPVAL, SETTABLE, NEWTABLE, SELF, ADD, SUB, MUL, DIV, MOD, POW, UNM, NOT, LEN, CONCAT, CALL, TAILCALL, FORPREP, TFORLOOP, SETLIST, CLOSE, CLOSURE, VARARG}
-use Rattle.lua51_deserializer.specs.Proto.{Proto, flowAt, opcode, size, Bx, target, word, opAt}
+use Rattle.lua51_deserializer.specs.Proto.{Proto, flowAt, opcode, size, Bx, target, word, opAt, closureOf}
 use mathlib.Core.Path.{_≡_, refl}
 use Rattle.lua51_deserializer.proofs.Tests.{and-left, or-cases, clash, and-right, not-is, either-way}
 use lib.Dec.{leb, eqb}
@@ -138,11 +138,15 @@ module _ (p : Proto) (i : ℕ) where
   pub word-beyond : size p ≤ i → word p i ≡ 0
   word-beyond h = List·getD-eq-default (p .words) 0 h
 
-  -- ------------------------------------------------------------ jumps
+  -- ------------------------------------------------------------ targets and nested functions
 
-  -- a jump by nothing goes to the next word, and by one more to the one after
+  -- a jump by nothing goes to the next word, and by d to the d-th word behind that
   pub target-next : Bx p i ≡ bias → target p i ≡ i + 1
   target-next e = omega arith
 
   pub target-far : (d : ℕ) → Bx p i ≡ bias + d → target p i ≡ i + 1 + d
   target-far d e = omega arith
+
+  -- CLOSURE with Bx 0 makes the first nested function
+  pub closure-first : (f : ℕ) (fs : List ℕ) → Bx p i ≡ 0 → p .nested ≡ f ∷ fs → closureOf p i ≡ f
+  closure-first f fs e h = rw (closureOf, e, h)
