@@ -1,5 +1,5 @@
 -- P10's lengths, for every list. Assumes nothing.
-use Rattle.lua51_deserializer.specs.Chunk.{Read, refused, Place, protoAt, most-bytes, walk}
+use Rattle.lua51_deserializer.specs.Chunk.{Read, refused, Place, protoAt, walk}
 use Rattle.lua51_deserializer.proofs.Numbers.{Later, goes-on, later, short-later, long-refused}
 use Rattle.reading.specs.Reading.{judged}
 use Rattle.lua51_lifter.specs.Check.{Verdict}
@@ -31,7 +31,7 @@ unfolding judgeRead
 read-beyond s ps goes-on = functions-beyond s ps 0 (length ps)
 read-beyond s ps (later l) = beyond l
 
-judge-beyond : (s : List ℕ) → length s ≤ most-bytes → Beyond (judge s)
+judge-beyond : (s : List ℕ) → length s ≤ 65536 → Beyond (judge s)
 unfolding judge
 judge-beyond s h = read-beyond s (walk s .places) (short-later s h)
 

@@ -1,7 +1,7 @@
 -- Which refusal the length of a chunk decides: above 65,536 bytes it is 1, and at or below that it is none or a later one.
 -- Assumes nothing.
 use mathlib.Core.Bool.{Bool, true, false, cond}
-use Rattle.lua51_deserializer.specs.Chunk.{constant, Read, here, refused, Walk, whole, counted, signature, head, again, many, body, limited, begin, function, _then_, walk, field, finish, string, Place, ends, code, intAt, byteAt, lines, most-flags, most-bytes, _next_, most, nest, exactly, from, walked, locals, most-functions, constants, most-words, header, names, countTo, most-depth, constantOf, present, kind-nil, kind-boolean, kind-number, kind-string}
+use Rattle.lua51_deserializer.specs.Chunk.{constant, Read, here, refused, Walk, whole, counted, signature, head, again, many, body, limited, begin, function, _then_, walk, field, finish, string, Place, ends, code, intAt, byteAt, lines, most-flags, _next_, most, nest, exactly, from, walked, locals, most-functions, constants, most-words, header, names, countTo, most-depth, constantOf, present, kind-nil, kind-boolean, kind-number, kind-string, most-bytes}
 use Prim.Native.Nat.{ℕ, zero, suc, _+_, _≤_, _<_}
 use native.Mathlib.Omega.{arith}
 use mathlib.Core.Path.{_≡_}
@@ -121,13 +121,13 @@ module _ (s : List ℕ) where
   signature-later (b ∷ h) i = then-later (whole-later 1 i (cond-later (eqb (byteAt s i) b) goes-on (later (omega arith)))) (signature-later h)
 
   -- a chunk of 65,536 bytes or fewer is not refused by 1
-  pub short-later : length s ≤ most-bytes → Later (walk s .read)
+  pub short-later : length s ≤ 65536 → Later (walk s .read)
   unfolding walk ends
-  short-later h = rw (le-ltb most-bytes (length s) h)
+  short-later h = rw (le-ltb most-bytes (length s) (omega arith))
       (then-later (next-later (walked (signature s header 0) []) (function s most-depth 0) (signature-later header 0) (function-later most-depth 0))
       (λ i. cond-later (ltb i (length s)) (later (omega arith)) goes-on))
 
   -- a longer one is
-  pub long-refused : most-bytes < length s → walk s .read ≡ refused 1 0
+  pub long-refused : 65536 < length s → walk s .read ≡ refused 1 0
   unfolding walk
-  long-refused h = rw (lt-ltb most-bytes (length s) h)
+  long-refused h = rw (lt-ltb most-bytes (length s) (omega arith))

@@ -277,3 +277,45 @@ unfolding flatMap digits decimal column line bytes over sum times opOf row rowOf
     concatenated captures taken opened statementsBy pending statements onThen front leads codeBlock entryBlock
     betweenBlock graph kindOf value constantLines statementLine edgeLine blockLine blockLines listing sample sample-words sample-constants sample-listing
 sample-listed = refl
+
+-- ------------------------------------------------------------ a between block
+
+-- FORLOOP to the next word (document 01's P6): Then goes by way of a between block, and Else skips it
+onward : Proto
+onward = record {
+  number = 0;
+  parameters = 3;
+  upvalues = 0;
+  flags = 0;
+  stack = 4;
+  words = jumps FORLOOP 0 0 1 ∷ abc RETURN 0 1 0 ∷ [];
+  kinds = [];
+  nested = [];
+  captured = [];
+  lines = [];
+  names = 0;
+}
+
+onward-listing : List ℕ
+onward-listing =
+    bytes "F      0      3      0      4\n"
+    ++ bytes "B      0      0      1      0\n"
+    ++ bytes "S      6      0      1      2\n"
+    ++ bytes "E      1      4\n"
+    ++ bytes "E      2      1\n"
+    ++ bytes "B      1      1      2      0\n"
+    ++ bytes "S      4      0\n"
+    ++ bytes "B      2      2      2      0\n"
+    ++ bytes "B      3      2      2      1\n"
+    ++ bytes "S      1      1      1      1      3      3\n"
+    ++ bytes "E      0      0\n"
+    ++ bytes "B      4      2      2      2\n"
+    ++ bytes "S      1      1      1      1      3      1      0\n"
+    ++ bytes "E      0      1\n"
+
+onward-listed : listing onward [] ≡ onward-listing
+unfolding flatMap digits decimal column line bytes over sum times opOf row rowOf claims leader blockOf leaderFrom past
+    leaving exits entering isLoop thenOf diverted betweenOf count expr exprs tail run registers rk condition
+    concatenated captures taken opened statementsBy pending statements onThen front leads codeBlock entryBlock
+    betweenBlock graph kindOf value constantLines statementLine edgeLine blockLine blockLines listing onward onward-listing
+onward-listed = refl
