@@ -1,14 +1,14 @@
 -- Laws of a decimal number: its digits from the last one on, their count, and the columns they fill. Assumes nothing.
-use Prim.Native.Nat.{ℕ, zero, suc, _+_, _-_, _*_, _/_, _%_, _^_, _≤_, _<_}
+use Prim.Native.Nat.{ℕ, zero, suc, _+_, _-_, _/_, _%_, _^_, _≤_, _<_}
 use mathlib.Core.Path.{_≡_, refl, sym, ap, _∙_}
 use mathlib.Core.List.{List, [], _∷_, _++_, append-assoc}
 use mathlib.Core.Logic.{_⊎_, inl, inr, ⊎-elim}
-use native.Mathlib.Nat.{pow-succ'}
+use native.Mathlib.Nat.{one-le-pow, pow-succ'}
 use native.Mathlib.Decide.{decLt}
 use native.Mathlib.Omega.{arith}
 use borrow.Author.Tests.{lt-ltb, le-ltb}
-use lib.ListN.{length, length-append, replicate, length-replicate}
-use Rattle.lines.specs.Line.{digit, blank, digits, decimal, column}
+use lib.ListN.{length, length-append, length-replicate}
+use Rattle.lines.specs.Line.{digit, digits, decimal, column}
 
 digits-few : (k x : ℕ) (ds : List ℕ) → x < 10 → digits (suc k) x ds ≡ digit x ∷ ds
 unfolding digits
@@ -79,3 +79,19 @@ pub column-length : (n : ℕ) → n ≤ 9999999 → length (column n) ≡ 7
 unfolding column
 column-length n h =
     rw (length-append, length-replicate) (omega (arith, decimal-length 6 n (omega arith) (omega arith)))
+
+-- a number from 10 ^ k on has more than k digits
+decimal-long : (k x : ℕ) → 10 ^ k ≤ x → x < 2 ^ 64 → k < length (decimal x)
+decimal-long zero x h l =
+    ⊎-elim (λ few. omega (arith, length-few x few)) (λ more. omega (arith, length-more x more l)) (few-or-more x)
+decimal-long (suc k) x h l =
+    let more : 10 ≤ x = omega (arith, pow-succ' 10 k, one-le-pow k 10 (omega arith)) in
+    let above : 10 ^ k ≤ x / 10 = omega (arith, pow-succ' 10 k) in
+    omega (arith, length-more x more l, decimal-long k (x / 10) above (omega arith))
+
+-- a larger one has no blanks
+pub column-large : (n : ℕ) → 9999999 < n → n < 2 ^ 64 → column n ≡ decimal n
+unfolding column
+column-large n h l =
+    let none : 7 - length (decimal n) ≡ 0 = omega (arith, decimal-long 7 n (omega arith) l) in
+    rw none

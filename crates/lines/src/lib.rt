@@ -1,10 +1,10 @@
 // Printing the lines of a listing: one byte, one number in 7 columns, one line.
 //
-// A printer takes the output, the place of its next byte, and gives the place after what it printed. A byte is stored where its
-// place is inside the output and counted in any case, so the same printer writes a listing and, lent an empty output, measures it.
+// A printer takes the output and the place where it prints, and gives the place after what it printed. A byte is stored where
+// its place is inside the output and counted in any case: the same printer writes a listing and, lent an empty output, measures it.
 //
-// Numbers are u32: every number of a listing is a count, a place, a byte or a piece of 16 bits and fits, a statement is a run of u32
-// in a lent buffer, and a line prints such a run as it stands.
+// Numbers are u32: a number of a listing is a count, a place, a byte or a piece of 16 bits, and fits; a statement is a run of u32,
+// and a line prints such a run as it stands.
 ghost use mathlib.Core.Path.{_≡_};
 ghost use mathlib.Core.List.{[], _∷_, flatMap};
 ghost use Prim.Native.Nat.{_+_, _-_, min};
@@ -13,19 +13,23 @@ ghost use Rattle.lines.specs.Line.{blank, column, decimal, line, line-fe
 ghost use Rattle.lines.specs.Out.{largest-usize, output, puts};
 
 const LINE_FEED: u8 = b'\n';
+
 const BLANK: u8 = b' ';
-const DIGIT_ZERO: u32 = 48;
-const TEN: u32 = 10;
+
+const DIGIT_ZERO: u32 = b'0' as u32;
+
+const BASE: u32 = 10;
+
 const COLUMNS: usize = 7;
 
-// The place after `at`; the largest one has none after it and stays.
+// The place after one byte. Counting stops at the largest place.
 fn counted(at: usize) -> usize
     ensures { λ r. ⌜ r ≡ min (at + 1) largest-usize ⌝ }
 {
     if at < usize::MAX { at + 1 } else { at }
 }
 
-// Prints one byte.
+// Prints one byte at the place `at`: stored where the output reaches so far, counted in any case.
 pub fn put_byte(out: &mut [u8], at: usize, b: u8) -> usize
     ensures { λ r. ⌜ output (now (out .exit)) r ≡ puts (output (now (out .entry)) at) (b ∷ []) ⌝ }
 {
@@ -36,23 +40,23 @@ pub fn put_byte(out: &mut [u8], at: usize, b: u8) -> usize
     next
 }
 
-// The blanks that right-justify a number: one for each column that its digits leave.
+// How many blanks right-justify a number: one for each column that its digits leave. The only place where this is chosen.
 fn blanks(n: u32) -> usize
     ensures { λ r. ⌜ r ≡ 7 - length (decimal n) ⌝ }
 {
     let mut left = COLUMNS - 1;
     let mut rest = n;
-    while TEN <= rest {
+    while BASE <= rest {
         if left == 0 {
             return 0;
         }
         left -= 1;
-        rest /= TEN;
+        rest /= BASE;
     }
     left
 }
 
-// Prints so many blanks.
+// Prints `count` blanks.
 fn put_blanks(out: &mut [u8], at: usize, count: usize) -> usize
     ensures { λ r. ⌜ output (now (out .exit)) r ≡ puts (output (now (out .entry)) at) (replicate count blank) ⌝ }
 {
@@ -65,20 +69,20 @@ fn put_blanks(out: &mut [u8], at: usize, count: usize) -> usize
     next
 }
 
-// Prints a number's digits: those above the last, then the last.
+// Prints a number's digits: those above the last, then the last. It calls itself once for each digit, at most 10 deep.
 fn put_digits(out: &mut [u8], at: usize, n: u32) -> usize
     ensures { λ r. ⌜ output (now (out .exit)) r ≡ puts (output (now (out .entry)) at) (decimal n) ⌝ }
 {
-    let last = (DIGIT_ZERO + n % TEN) as u8;
-    if n < TEN {
+    let last = (DIGIT_ZERO + n % BASE) as u8;
+    if n < BASE {
         return put_byte(out, at, last);
     }
-    let next = put_digits(out, at, n / TEN);
+    let next = put_digits(out, at, n / BASE);
     put_byte(out, next, last)
 }
 
-// Prints a number, right-justified in 7 columns. One above 9,999,999 has no blanks and takes as many columns as it has digits; no
-// listing has such a number.
+// Prints a number, right-justified in 7 columns. A number above 9,999,999 does not occur in a listing; it prints its digits without
+// blanks.
 pub fn put_number(out: &mut [u8], at: usize, n: u32) -> usize
     ensures { λ r. ⌜ output (now (out .exit)) r ≡ puts (output (now (out .entry)) at) (column n) ⌝ }
 {
@@ -86,7 +90,7 @@ pub fn put_number(out: &mut [u8], at: usize, n: u32) -> usize
     put_digits(out, next, n)
 }
 
-// Prints numbers one after the other, each in its columns.
+// Prints numbers one after the other, each right-justified in 7 columns.
 pub fn put_numbers(out: &mut [u8], at: usize, numbers: &[u32]) -> usize
     ensures { λ r. ⌜ output (now (out .exit)) r ≡ puts (output (now (out .entry)) at) (flatMap column (now (numbers .entry))) ⌝ }
 {

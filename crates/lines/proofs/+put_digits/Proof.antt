@@ -1,3 +1,4 @@
+-- `put_digits`, which calls itself, meets its contract: the digits of n / 10, then the last. The measure is n. Assumes nothing.
 use borrow.Author.Needs.{needs}
 use Prim.Native.Nat.{ℕ, _/_, _%_, _<_}
 use mathlib.Core.List.{[], _∷_}
@@ -25,7 +26,6 @@ abbrev put-digits-below : ℕ → In 1 put-digits-kinds.ps
 put-digits-below t =
     and 1 put-digits-kinds.ps (falls 1 put-digits-kinds.ps _<_ μ-put-digits t) put-digits.Pre
 
--- src/lib.rt:72:17
 put-digits-add-last : (t : ℕ) → put-digits-lts.Need-add-last (
   put-byte-reads.Asked,
   put-byte-reads.Learnt,
@@ -34,7 +34,6 @@ put-digits-add-last : (t : ℕ) → put-digits-lts.Need-add-last (
 ) (put-digits-at t) put-digits.Post
 put-digits-add-last t c = search needs
 
--- src/lib.rt:72:16
 put-digits-cast-last : (t : ℕ) → put-digits-lts.Need-cast-last (
   put-byte-reads.Asked,
   put-byte-reads.Learnt,
@@ -43,7 +42,6 @@ put-digits-cast-last : (t : ℕ) → put-digits-lts.Need-cast-last (
 ) (put-digits-at t) put-digits.Post
 put-digits-cast-last t c = search needs
 
--- src/lib.rt:74:9
 put-digits-put-byte-requires : (t : ℕ) → put-digits-lts.Need-put-byte-requires (
   put-byte-reads.Asked,
   put-byte-reads.Learnt,
@@ -52,7 +50,6 @@ put-digits-put-byte-requires : (t : ℕ) → put-digits-lts.Need-put-byte-requir
 ) (put-digits-at t) put-digits.Post
 put-digits-put-byte-requires t c κs = search needs
 
--- src/lib.rt:74:9
 put-digits-same-length : (t : ℕ) → put-digits-lts.Need-same-length (
   put-byte-reads.Asked,
   put-byte-reads.Learnt,
@@ -61,7 +58,6 @@ put-digits-same-length : (t : ℕ) → put-digits-lts.Need-same-length (
 ) (put-digits-at t) put-digits.Post
 put-digits-same-length t c = search needs
 
--- src/lib.rt:74:9
 put-digits-returns : (t : ℕ) → put-digits-lts.Need-returns (
   put-byte-reads.Asked,
   put-byte-reads.Learnt,
@@ -72,7 +68,6 @@ put-digits-returns t c =
     let n = c .before .before .before .before .before .before .args .n in
     cc (decimal-few n (search needs))
 
--- src/lib.rt:76:9
 put-digits-put-digits-requires : (t : ℕ) → put-digits-lts.Need-put-digits-requires (
   put-byte-reads.Asked,
   put-byte-reads.Learnt,
@@ -81,7 +76,6 @@ put-digits-put-digits-requires : (t : ℕ) → put-digits-lts.Need-put-digits-re
 ) (put-digits-at t) put-digits.Post
 put-digits-put-digits-requires t c κs = search needs
 
--- src/lib.rt:77:5
 put-digits-put-byte-requires-2 : (t : ℕ) → put-digits-lts.Need-put-byte-requires-2 (
   put-byte-reads.Asked,
   put-byte-reads.Learnt,
@@ -90,7 +84,6 @@ put-digits-put-byte-requires-2 : (t : ℕ) → put-digits-lts.Need-put-byte-requ
 ) (put-digits-at t) put-digits.Post
 put-digits-put-byte-requires-2 t c κs = search needs
 
--- src/lib.rt:69:1
 put-digits-same-length-2 : (t : ℕ) → put-digits-lts.Need-same-length-2 (
   put-byte-reads.Asked,
   put-byte-reads.Learnt,
@@ -99,7 +92,6 @@ put-digits-same-length-2 : (t : ℕ) → put-digits-lts.Need-same-length-2 (
 ) (put-digits-at t) put-digits.Post
 put-digits-same-length-2 t c = search needs
 
--- src/lib.rt:69:1
 put-digits-returns-2 : (t : ℕ) → put-digits-lts.Need-returns-2 (
   put-byte-reads.Asked,
   put-byte-reads.Learnt,

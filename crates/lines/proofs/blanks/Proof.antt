@@ -1,5 +1,7 @@
+-- `blanks` meets its contract. The loop's invariant: what the digits of n leave of 7 columns is what those of `rest` leave of `left` + 1;
+-- each turn takes one digit and one column. Assumes nothing.
 use Prim.Native.Nat.{_+_, _-_, _≤_}
-use mathlib.Core.Path.{_≡_, refl}
+use mathlib.Core.Path.{_≡_}
 use native.Mathlib.Omega.{arith}
 use lib.ListN.{length}
 use borrow.Author.Needs.{needs}
@@ -7,8 +9,6 @@ use Rattle.lines.specs.Line.{decimal}
 use Rattle.lines.proofs.Decimal.{length-few, length-more}
 use Rattle.lines.proofs.blanks.Statement.{statement}
 use Rattle.lines.proofs.blanks.Tie as tie
-use Rattle.lines.proofs.blanks.Reads as reads
-use Rattle.lines.proofs.blanks.Lts as lts
 
 abbrev Inv-loop : tie.InvT-loop
 Inv-loop n left₀ rest₀ left rest = (rest ≤ n) × (7 - length (decimal n) ≡ left + 1 - length (decimal rest))
@@ -16,31 +16,24 @@ Inv-loop n left₀ rest₀ left rest = (rest ≤ n) × (7 - length (decimal n) �
 abbrev μ-loop : tie.MeasureT-loop
 μ-loop n left₀ rest₀ left rest = rest
 
--- src/lib.rt:43:20
 sub-left : tie.Need-sub-left Inv-loop μ-loop
 sub-left c = search needs
 
--- src/lib.rt:45:5
 loop-holds : tie.Need-loop-holds Inv-loop μ-loop
 loop-holds c = search needs
 
--- src/lib.rt:47:13
 returns : tie.Need-returns Inv-loop μ-loop
 returns c = omega (arith, length-more (c .before .before .loop .rest) (search needs) (search needs))
 
--- src/lib.rt:49:9
 sub-left-2 : tie.Need-sub-left-2 Inv-loop μ-loop
 sub-left-2 c = search needs
 
--- src/lib.rt:45:5
 loop-less : tie.Need-loop-less Inv-loop μ-loop
 loop-less c = search needs
 
--- src/lib.rt:45:5
 loop-again : tie.Need-loop-again Inv-loop μ-loop
 loop-again c = (search needs, omega (arith, length-more (c .before .before .loop .rest) (search needs) (search needs)))
 
--- src/lib.rt:40:1
 returns-2 : tie.Need-returns-2 Inv-loop μ-loop
 returns-2 c = omega (arith, length-few (c .before .loop .rest) (search needs))
 

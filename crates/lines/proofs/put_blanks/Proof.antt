@@ -1,4 +1,5 @@
-use Prim.Native.Nat.{ℕ, _-_}
+-- `put_blanks` meets its contract. The loop's invariant: to print all blanks from the start is to print those that are left from here. Assumes nothing.
+use Prim.Native.Nat.{ℕ}
 use mathlib.Core.Path.{_≡_, ap}
 use native.Mathlib.Omega.{arith}
 use lib.ListN.{length, replicate}
@@ -8,9 +9,6 @@ use Rattle.lines.specs.Out.{output, puts}
 use Rattle.lines.proofs.Puts.{puts-again, puts-none}
 use Rattle.lines.proofs.put_blanks.Statement.{statement}
 use Rattle.lines.proofs.put_blanks.Tie as tie
-use Rattle.lines.proofs.put_blanks.Reads as reads
-use Rattle.lines.proofs.put_blanks.Lts as lts
-use Rattle.lines.proofs.put_byte.Reads as put-byte-reads
 
 abbrev Inv-loop : tie.InvT-loop
 Inv-loop out₀ at count next₀ left₀ out next left =
@@ -19,33 +17,26 @@ Inv-loop out₀ at count next₀ left₀ out next left =
 abbrev μ-loop : tie.MeasureT-loop
 μ-loop out₀ at count next₀ left₀ out next left = left
 
--- src/lib.rt:61:5
 loop-holds : tie.Need-loop-holds Inv-loop μ-loop
 loop-holds c = search needs
 
--- src/lib.rt:62:9
 put-byte-requires : tie.Need-put-byte-requires Inv-loop μ-loop
 put-byte-requires c κs = search needs
 
--- src/lib.rt:63:9
 sub-left : tie.Need-sub-left Inv-loop μ-loop
 sub-left c = search needs
 
--- src/lib.rt:61:5
 loop-less : tie.Need-loop-less Inv-loop μ-loop
 loop-less c = search needs
 
--- src/lib.rt:61:5
 loop-again : tie.Need-loop-again Inv-loop μ-loop
 loop-again c =
     let l = c .before .before .before .before .before .loop in
     (search needs, cc (puts-again (output (l .out) (l .next)) blank (l .left) (search needs)))
 
--- src/lib.rt:56:1
 same-length : tie.Need-same-length Inv-loop μ-loop
 same-length c = search needs
 
--- src/lib.rt:56:1
 returns : tie.Need-returns Inv-loop μ-loop
 returns c =
     let l = c .before .loop in

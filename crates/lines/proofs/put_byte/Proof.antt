@@ -1,30 +1,23 @@
+-- `put_byte` meets its contract: past the output's end `set` changes nothing. Assumes nothing.
 use lib.Seq.{set-out}
 use Rattle.lines.specs.Out.{put, puts}
 use borrow.Author.Needs.{needs}
 use Rattle.lines.proofs.put_byte.Statement.{statement}
 use Rattle.lines.proofs.put_byte.Tie as tie
-use Rattle.lines.proofs.put_byte.Reads as reads
-use Rattle.lines.proofs.put_byte.Lts as lts
-use Rattle.lines.proofs.counted.Reads as counted-reads
 
--- src/lib.rt:32:9
 counted-requires : tie.Need-counted-requires
 counted-requires c κs = search needs
 
--- src/lib.rt:34:9
 slice-write-out : tie.Need-slice-write-out
 slice-write-out c = search needs
 
--- src/lib.rt:29:1
 same-length : tie.Need-same-length
 same-length c = search needs
 
--- src/lib.rt:29:1
 returns : tie.Need-returns
 unfolding put puts
 returns c = cc
 
--- src/lib.rt:29:1
 returns-2 : tie.Need-returns-2
 unfolding put puts
 returns-2 c =

@@ -1,31 +1,22 @@
+-- `put_line` meets its contract: letter, numbers, end. Assumes nothing.
 use Rattle.lines.specs.Out.{output}
 use Rattle.lines.proofs.Puts.{puts-line}
 use borrow.Author.Needs.{needs}
 use Rattle.lines.proofs.put_line.Statement.{statement}
 use Rattle.lines.proofs.put_line.Tie as tie
-use Rattle.lines.proofs.put_line.Reads as reads
-use Rattle.lines.proofs.put_line.Lts as lts
-use Rattle.lines.proofs.put_end.Reads as put-end-reads
-use Rattle.lines.proofs.put_letter.Reads as put-letter-reads
-use Rattle.lines.proofs.put_numbers.Reads as put-numbers-reads
 
--- src/lib.rt:120:9
 put-letter-requires : tie.Need-put-letter-requires
 put-letter-requires c κs = search needs
 
--- src/lib.rt:121:9
 put-numbers-requires : tie.Need-put-numbers-requires
 put-numbers-requires c κs = search needs
 
--- src/lib.rt:122:5
 put-end-requires : tie.Need-put-end-requires
 put-end-requires c κs = search needs
 
--- src/lib.rt:117:1
 same-length : tie.Need-same-length
 same-length c = search needs
 
--- src/lib.rt:117:1
 returns : tie.Need-returns
 returns c =
     let a = c .before .before .before .before .before .before .before .before .before .before .before .before .before .before .args in
