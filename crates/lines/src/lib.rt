@@ -7,10 +7,10 @@
 // and a line prints such a run as it stands.
 ghost use mathlib.Core.Path.{_≡_};
 ghost use mathlib.Core.List.{[], _∷_, flatMap};
-ghost use Prim.Native.Nat.{_+_, _-_, min};
+ghost use Prim.Native.Nat.{_-_};
 ghost use lib.ListN.{length, replicate};
 ghost use Rattle.lines.specs.Line.{blank, column, decimal, line, line-feed};
-ghost use Rattle.lines.specs.Out.{largest-usize, output, puts};
+ghost use Rattle.lines.specs.Out.{output, puts};
 
 const LINE_FEED: u8 = b'\n';
 
@@ -22,22 +22,16 @@ const BASE: u32 = 10;
 
 const COLUMNS: usize = 7;
 
-// The place after one byte. Counting stops at the largest place.
-fn counted(at: usize) -> usize
-    ensures { λ r. ⌜ r ≡ min (at + 1) largest-usize ⌝ }
-{
-    if at < usize::MAX { at + 1 } else { at }
-}
-
-// Prints one byte at the place `at`: stored where the output reaches so far, counted in any case.
+// Prints one byte at the place `at`: stored where the output reaches so far, counted in any case. Counting stops at the largest
+// place.
 pub fn put_byte(out: &mut [u8], at: usize, b: u8) -> usize
     ensures { λ r. ⌜ output (now (out .exit)) r ≡ puts (output (now (out .entry)) at) (b ∷ []) ⌝ }
 {
-    let next = counted(at);
     if at < out.len() {
         out[at] = b;
+        return at + 1;
     }
-    next
+    if at < usize::MAX { at + 1 } else { at }
 }
 
 // How many blanks right-justify a number: one for each column that its digits leave. The only place where this is chosen.
