@@ -66,7 +66,7 @@ put-digits-returns : (t : ℕ) → put-digits-lts.Need-returns (
 ) (put-digits-at t) put-digits.Post
 put-digits-returns t c =
     let n = c .before .before .before .before .before .before .args .n in
-    cc (decimal-few n (search needs))
+    rw (decimal-few n (search needs)) (c .before .before .put-byte .ensures)
 
 put-digits-put-digits-requires : (t : ℕ) → put-digits-lts.Need-put-digits-requires (
   put-byte-reads.Asked,
@@ -99,9 +99,10 @@ put-digits-returns-2 : (t : ℕ) → put-digits-lts.Need-returns-2 (
   put-digits.Post,
 ) (put-digits-at t) put-digits.Post
 put-digits-returns-2 t c =
-    let a = c .before .before .before .before .before .before .before .before .before .before .args in
-    let o = output (a .out .now) (a .at) in
-    cc (decimal-more (a .n) (search needs) (search needs), puts-append o (decimal (a .n / 10)) (digit (a .n % 10) ∷ []))
+    let above = c .before .before .before .before .before .before in
+    let a = above .before .before .before .before .args in
+    rw (decimal-more (a .n) (search needs) (search needs), puts-append (output (a .out .now) (a .at)) (decimal (a .n / 10)) (digit (a .n % 10) ∷ []), ← above .put-digits .ensures)
+    (c .before .before .put-byte2 .ensures)
 
 pub +put-digits-spec : {M : Type 1} → statement M
 +put-digits-spec = close μ-put-digits λ t. put-digits-lts.spec (

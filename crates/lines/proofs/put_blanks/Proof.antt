@@ -1,6 +1,5 @@
 -- `put_blanks` meets its contract. The loop's invariant: to print all blanks from the start is to print those that are left from here. Assumes nothing.
-use Prim.Native.Nat.{ℕ}
-use mathlib.Core.Path.{_≡_, ap}
+use mathlib.Core.Path.{_≡_, _∙_, sym}
 use native.Mathlib.Omega.{arith}
 use lib.ListN.{length, replicate}
 use borrow.Author.Needs.{needs}
@@ -32,7 +31,8 @@ loop-less c = search needs
 loop-again : tie.Need-loop-again Inv-loop μ-loop
 loop-again c =
     let l = c .before .before .before .before .before .loop in
-    (search needs, cc (puts-again (output (l .out) (l .next)) blank (l .left) (search needs)))
+    let turn = puts-again (output (l .out) (l .next)) blank (l .left) (search needs) in
+    (search needs, rw (c .before .before .put-byte .ensures) (l .inv .1 ∙ turn))
 
 same-length : tie.Need-same-length Inv-loop μ-loop
 same-length c = search needs
@@ -41,7 +41,7 @@ returns : tie.Need-returns Inv-loop μ-loop
 returns c =
     let l = c .before .loop in
     let done : l .left ≡ 0 = omega arith in
-    cc (puts-none (output (l .out) (l .next)), ap (λ (k : ℕ). replicate k blank) done)
+    sym ((rw done at (l .inv .1)) ∙ puts-none (output (l .out) (l .next)))
 
 pub put-blanks-spec : {M : Type 1} → statement M
 put-blanks-spec =

@@ -19,8 +19,11 @@ same-length c = search needs
 
 returns : tie.Need-returns
 returns c =
-    let a = c .before .before .before .before .before .before .before .before .before .before .before .before .before .before .args in
-    cc (puts-line (output (a .out .now) (a .at)) (a .letter) (a .numbers .now))
+    let body = c .before .before .before .before .before .before in
+    let head = body .before .before .before .before in
+    let a = head .before .before .before .before .args in
+    rw (puts-line (output (a .out .now) (a .at)) (a .letter) (a .numbers .now), ← head .put-letter .ensures, ← body .put-numbers .ensures)
+    (c .before .before .put-end .ensures)
 
 pub put-line-spec : {M : Type 1} → statement M
 put-line-spec =

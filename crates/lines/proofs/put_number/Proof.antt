@@ -23,8 +23,11 @@ same-length c = search needs
 returns : tie.Need-returns
 unfolding column
 returns c =
-    let a = c .before .before .before .before .before .before .before .before .before .before .args in
-    cc (puts-append (output (a .out .now) (a .at)) (replicate (7 - length (decimal (a .n))) blank) (decimal (a .n)))
+    let padded = c .before .before .before .before .before .before in
+    let chosen = padded .before in
+    let a = chosen .before .before .before .args in
+    rw (puts-append (output (a .out .now) (a .at)) (replicate (7 - length (decimal (a .n))) blank) (decimal (a .n)), ← chosen .blanks .ensures, ← padded .put-blanks .ensures)
+    (c .before .before .put-digits .ensures)
 
 pub put-number-spec : {M : Type 1} → statement M
 put-number-spec =

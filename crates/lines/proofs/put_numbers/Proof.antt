@@ -1,6 +1,6 @@
 -- `put_numbers` meets its contract. The loop's invariant: to print all numbers from the start is to print those that are left from here. Assumes nothing.
 use Prim.Native.Nat.{_-_, _≤_}
-use mathlib.Core.Path.{_≡_}
+use mathlib.Core.Path.{_≡_, _∙_, sym}
 use mathlib.Core.List.{flatMap}
 use lib.ListN.{length, drop}
 use borrow.Author.Needs.{needs}
@@ -40,7 +40,8 @@ loop-again : tie.Need-loop-again Inv-loop μ-loop
 loop-again c =
     let l = c .before .before .before .before .before .before in
     let numbers = l .before .before .before .args .numbers .now in
-    (search needs, search needs, cc (puts-turn column (output (l .loop .out) (l .loop .next)) numbers (l .loop .i) (search needs)))
+    let turn = puts-turn column (output (l .loop .out) (l .loop .next)) numbers (l .loop .i) (search needs) in
+    (search needs, search needs, rw (c .before .before .put-number .ensures) (l .loop .inv .2 ∙ turn))
 
 same-length : tie.Need-same-length Inv-loop μ-loop
 same-length c = search needs
@@ -49,7 +50,7 @@ returns : tie.Need-returns Inv-loop μ-loop
 returns c =
     let l = c .before in
     let numbers = l .before .before .before .args .numbers .now in
-    cc (puts-done column (output (l .loop .out) (l .loop .next)) numbers (l .loop .i) (c .loop-test .left))
+    sym (l .loop .inv .2 ∙ puts-done column (output (l .loop .out) (l .loop .next)) numbers (l .loop .i) (c .loop-test .left))
 
 pub put-numbers-spec : {M : Type 1} → statement M
 put-numbers-spec =
