@@ -22,8 +22,7 @@ const BASE: u32 = 10;
 
 const COLUMNS: usize = 7;
 
-// Prints one byte at the place `at`: stored where the output reaches so far, counted in any case. Counting stops at the largest
-// place.
+// Prints one byte: stored if the place `at` is inside the output, counted in any case. Counting stops at the largest place.
 pub fn put_byte(out: &mut [u8], at: usize, b: u8) -> usize
     ensures { λ r. ⌜ output (now (out .exit)) r ≡ puts (output (now (out .entry)) at) (b ∷ []) ⌝ }
 {
@@ -34,7 +33,7 @@ pub fn put_byte(out: &mut [u8], at: usize, b: u8) -> usize
     if at < usize::MAX { at + 1 } else { at }
 }
 
-// How many blanks right-justify a number: one for each column that its digits leave. The only place where this is chosen.
+// How many blanks right-justify a number: one for each of the 7 columns that its digits leave. Chosen here and nowhere else.
 fn blanks(n: u32) -> usize
     ensures { λ r. ⌜ r ≡ 7 - length (decimal n) ⌝ }
 {
@@ -75,8 +74,7 @@ fn put_digits(out: &mut [u8], at: usize, n: u32) -> usize
     put_byte(out, next, last)
 }
 
-// Prints a number, right-justified in 7 columns. A number above 9,999,999 does not occur in a listing; it prints its digits without
-// blanks.
+// Prints a number, right-justified in 7 columns. One above 9,999,999 prints its digits without blanks; it does not occur in a listing.
 pub fn put_number(out: &mut [u8], at: usize, n: u32) -> usize
     ensures { λ r. ⌜ output (now (out .exit)) r ≡ puts (output (now (out .entry)) at) (column n) ⌝ }
 {

@@ -1,5 +1,5 @@
--- `blanks` meets its contract. The loop's invariant: what the digits of n leave of 7 columns is what those of `rest` leave of `left` + 1;
--- each turn takes one digit and one column. Assumes nothing.
+-- `blanks` meets its contract. The loop's invariant: what the digits of n leave of 7 columns, those of `rest` leave of `left` + 1.
+-- Each turn takes one digit and one column. Assumes nothing.
 use Prim.Native.Nat.{_+_, _-_, _≤_}
 use mathlib.Core.Path.{_≡_}
 use native.Mathlib.Omega.{arith}

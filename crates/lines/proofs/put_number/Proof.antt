@@ -26,7 +26,8 @@ returns c =
     let padded = c .before .before .before .before .before .before in
     let chosen = padded .before in
     let a = chosen .before .before .before .args in
-    rw (puts-append (output (a .out .now) (a .at)) (replicate (7 - length (decimal (a .n))) blank) (decimal (a .n)), ← chosen .blanks .ensures, ← padded .put-blanks .ensures)
+    let split = puts-append (output (a .out .now) (a .at)) (replicate (7 - length (decimal (a .n))) blank) (decimal (a .n)) in
+    rw (split, ← chosen .blanks .ensures, ← padded .put-blanks .ensures)
     (c .before .before .put-digits .ensures)
 
 pub put-number-spec : {M : Type 1} → statement M
