@@ -11,9 +11,9 @@ use Rattle.lines.specs.Line.{digits, decimal, column, line}
 use Rattle.lua51_deserializer.specs.Range.{over, sum, times}
 use Rattle.lua51_deserializer.specs.Word.{opOf, row, rowOf}
 use Rattle.lua51_deserializer.specs.Chunk.{again, intAt, field, limited, counted, body, string, present, constantOf, constant, head, code, constants, lines, locals, names, many, begin, nest, finish, function, exactly, signature, ends, walk, kindOf, ints, valueAt, valuesAt, nestedIn, constantsAt, protoAt}
-use Rattle.ast.specs.Statement.{count, expr, exprs, tail, run, registers}
+use Rattle.ast.specs.Statement.{count, expr, exprs, tailNumbers, run, registers}
 use Rattle.cfg.specs.Graph.{claims, leader, blockOf, leaderFrom, past, leaving, exits, entering, isLoop, thenOf, diverted, betweenOf}
-use Rattle.lua51_lifter.specs.Check.{first, headFault, lastFault, operand, operandFault, landsInside, tests, wordVerdict, opener, user, slot, matches, unused-results, missing-results, allCaptures, reaches, reached, useVerdict, check}
+use Rattle.lua51_lifter.specs.Check.{firstRefusal, headFault, lastFault, operand, operandFault, landsInside, tests, wordVerdict, opener, user, slot, matches, unused-results, missing-results, allCaptures, reaches, reached, useVerdict, check}
 use Rattle.lua51_lifter.specs.Lift.{rk, condition, concatenated, captures, taken, opened, statementsBy, pending, statements, onThen}
 use Rattle.lua51_lifter.specs.Blocks.{front, leads, codeBlock, entryBlock, betweenBlock, graph}
 use Rattle.lua51_lifter.specs.Listing.{value, constantLines, statementLine, edgeLine, blockLine, blockLines, listing}
@@ -23,8 +23,8 @@ use Rattle.follow.specs.Account.{onward, account}
 use Rattle.follow.specs.GraphFollower.{fold, folds, marked, marks, opensOf, opensIn, inside, outside, insides, outsides, tailOpens, tailMarked, actions, bare, endingOf, ending, answered, nextBlock, graphStep, byGraph}
 use Rattle.follow.specs.WordFollower.{named, RK, jumped, upward, slots, nils, strung, captured, takes, testing, doing, wordStepFrom, wordStep, byWords}
 use Rattle.lines.specs.Text.{bytes}
-use Rattle.cases.specs.Make.{int, function as make-function, chunk}
-use Rattle.cases.specs.Cases.{answerNumbers, eventNumbers, functionOf, blockOf as cases-blockOf, told, Case, AllHold}
+use Rattle.cases.specs.Make.{int, functionBytes, chunk}
+use Rattle.cases.specs.Cases.{answerNumbers, eventNumbers, functionOf, blockAt, told, Case, AllHold}
 use Rattle.cases.specs.Table.{return-alone, return-listing, equal-jump, equal-back, numeric-for, loop-onward, loop-first, three-deep, proved-cases, jump-over-listing, slip-cases, listing-0, listing-1, listing-2, nested-cases, cases}
 
 -- ------------------------------------------------------------ the test
@@ -58,16 +58,16 @@ hold (c ∷ cs) h =
 pub all-hold : AllHold cases
 unfolding flatMap flatten digits decimal column line over sum times opOf row rowOf again intAt field limited counted body
     string present constantOf constant head code constants lines locals names many begin nest finish function
-    exactly signature ends walk kindOf ints valueAt valuesAt nestedIn constantsAt protoAt count expr exprs tail run
-    registers claims leader blockOf leaderFrom past leaving exits entering isLoop thenOf diverted betweenOf first
+    exactly signature ends walk kindOf ints valueAt valuesAt nestedIn constantsAt protoAt count expr exprs tailNumbers run
+    registers claims leader blockOf leaderFrom past leaving exits entering isLoop thenOf diverted betweenOf firstRefusal
     headFault lastFault operand operandFault landsInside tests wordVerdict opener user slot matches unused-results
     missing-results allCaptures reaches reached useVerdict check rk condition concatenated captures taken opened
     statementsBy pending statements onThen front leads codeBlock entryBlock betweenBlock graph value constantLines
     statementLine edgeLine blockLine blockLines listing judgeFrom judgeRead judge listingOf listings piecesFor
     pieces onward account fold folds marked marks opensOf opensIn inside outside insides outsides tailOpens
     tailMarked actions bare endingOf ending answered nextBlock graphStep byGraph named RK jumped upward slots nils
-    strung captured takes testing doing wordStepFrom wordStep byWords int make-function chunk bytes answerNumbers
-    eventNumbers functionOf cases-blockOf told return-alone return-listing equal-jump equal-back numeric-for
+    strung captured takes testing doing wordStepFrom wordStep byWords int functionBytes chunk bytes answerNumbers
+    eventNumbers functionOf blockAt told return-alone return-listing equal-jump equal-back numeric-for
     loop-onward loop-first three-deep proved-cases jump-over-listing slip-cases listing-0 listing-1 listing-2
     nested-cases cases
 all-hold = hold cases refl

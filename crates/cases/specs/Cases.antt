@@ -54,16 +54,16 @@ eventNumbers lost = 8 ∷ []
 unfoldable pub functionOf : List ℕ → ℕ → Proto
 functionOf s f = protoAt s (walk s .places) f
 
-unfoldable pub blockOf : List ℕ → ℕ → ℕ → Block
-blockOf s f b = getD (graph (functionOf s f)) b no-block
+unfoldable pub blockAt : List ℕ → ℕ → ℕ → Block
+blockAt s f b = getD (graph (functionOf s f)) b no-block
 
 -- what the definitions tell
 unfoldable pub told : List ℕ → Asked → List ℕ
 told s judged = answerNumbers (judge s)
 told s (listed f) = listingOf s f
 told s printed = flatMap (λ piece. piece) (pieces s)
-told s (statements f b) = flatMap run (blockOf s f b .body)
-told s (edges f b) = flatMap (λ e. e .kind ∷ e .to ∷ []) (blockOf s f b .edges)
+told s (statements f b) = flatMap run (blockAt s f b .body)
+told s (edges f b) = flatMap (λ e. e .kind ∷ e .to ∷ []) (blockAt s f b .edges)
 told s (by-graph f answers) = flatMap eventNumbers (byGraph (functionOf s f) 20 answers)
 told s (by-words f answers) = flatMap eventNumbers (byWords (functionOf s f) 20 answers)
 

@@ -6,7 +6,7 @@ use Rattle.lua51_deserializer.specs.Word.{MOVE, LOADK, LOADBOOL, GETUPVAL, JMP,
 use Rattle.lua51_deserializer.specs.Chunk.{header}
 use Rattle.lines.specs.Text.{bytes}
 use Rattle.lua51_deserializer.specs.Encode.{abc, abx, jumps}
-use Rattle.cases.specs.Make.{function, chunk}
+use Rattle.cases.specs.Make.{functionBytes, chunk}
 use Rattle.cases.specs.Cases.{Case, Asked, judged, listed, printed, statements, edges, by-graph, by-words}
 
 abbrev case : List ℕ → Asked → List ℕ → Case
@@ -56,10 +56,10 @@ loop-first = chunk 4 (jumps FORLOOP 0 0 0 ∷ return ∷ [])
 -- a function in a function in main, each with its own head and words; main has a constant, a NaN
 unfoldable pub three-deep : List ℕ
 three-deep =
-    let inner = function 1 0 0 1 (abc GETUPVAL 0 0 0 ∷ abc RETURN 0 2 0 ∷ []) [] [] in
-    let outer = function 0 2 0 3 (abx CLOSURE 2 0 ∷ abc MOVE 0 1 0 ∷ abc RETURN 2 2 0 ∷ []) [] (inner ∷ []) in
+    let inner = functionBytes 1 0 0 1 (abc GETUPVAL 0 0 0 ∷ abc RETURN 0 2 0 ∷ []) [] [] in
+    let outer = functionBytes 0 2 0 3 (abx CLOSURE 2 0 ∷ abc MOVE 0 1 0 ∷ abc RETURN 2 2 0 ∷ []) [] (inner ∷ []) in
     let not-a-number : List ℕ = 3 ∷ 1 ∷ 2 ∷ 3 ∷ 4 ∷ 5 ∷ 6 ∷ 0xF8 ∷ 0x7F ∷ [] in
-    header ++ function 0 0 0 2 (abx CLOSURE 0 0 ∷ abx LOADK 1 0 ∷ return ∷ []) (not-a-number ∷ []) (outer ∷ [])
+    header ++ functionBytes 0 0 0 2 (abx CLOSURE 0 0 ∷ abx LOADK 1 0 ∷ return ∷ []) (not-a-number ∷ []) (outer ∷ [])
 
 -- ------------------------------------------------------------ P1 to P10
 

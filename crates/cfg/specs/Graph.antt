@@ -53,26 +53,26 @@ pub record Edge : Type 0 where
   pub kind : ℕ
   pub to : ℕ
 
-abbrev pub plain : ℕ → Edge
-plain t = record { kind = 0; to = t }
+abbrev pub plain-edge : ℕ → Edge
+plain-edge t = record { kind = 0; to = t }
 
-abbrev pub then : ℕ → Edge
-then t = record { kind = 1; to = t }
+abbrev pub then-edge : ℕ → Edge
+then-edge t = record { kind = 1; to = t }
 
-abbrev pub else : ℕ → Edge
-else t = record { kind = 2; to = t }
+abbrev pub else-edge : ℕ → Edge
+else-edge t = record { kind = 2; to = t }
 
 -- the edges of a range whose last word is i, to words: 'A test goes Then to the next word, Else to the one after';
 -- 'FORLOOP goes Then to its target and Else onward; TFORLOOP as a test'
 unfoldable pub leaving : Proto → ℕ → Flow → List Edge
-leaving p i straight = only (plain (i + 1))
-leaving p i skip = only (plain (cond (eqb (C p i) 0) (i + 1) (i + 2)))
-leaving p i jump = only (plain (target p i))
-leaving p i test = then (i + 1) ∷ else (i + 2) ∷ []
-leaving p i test-set = then (i + 1) ∷ else (i + 2) ∷ []
-leaving p i loop-entry = only (plain (target p i))
-leaving p i numeric-loop = then (target p i) ∷ else (i + 1) ∷ []
-leaving p i generic-loop = then (i + 1) ∷ else (i + 2) ∷ []
+leaving p i straight = only (plain-edge (i + 1))
+leaving p i skip = only (plain-edge (cond (eqb (C p i) 0) (i + 1) (i + 2)))
+leaving p i jump = only (plain-edge (target p i))
+leaving p i test = then-edge (i + 1) ∷ else-edge (i + 2) ∷ []
+leaving p i test-set = then-edge (i + 1) ∷ else-edge (i + 2) ∷ []
+leaving p i loop-entry = only (plain-edge (target p i))
+leaving p i numeric-loop = then-edge (target p i) ∷ else-edge (i + 1) ∷ []
+leaving p i generic-loop = then-edge (i + 1) ∷ else-edge (i + 2) ∷ []
 leaving p i exit = []
 
 -- how many edges of the range whose last word is i go to word t

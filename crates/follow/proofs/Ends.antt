@@ -2,7 +2,7 @@
 use mathlib.Core.Bool.{true, false, not, cond, _&&_, _||_}
 use Rattle.lua51_deserializer.specs.Word.{straight, skip, jump, test, test-set, loop-entry, numeric-loop, generic-loop, exit, LOADBOOL, JMP, TESTSET, RETURN, FORLOOP, FORPREP, TFORLOOP, Flow, numberOf, Op, rowOf, row, opOf}
 use Rattle.ast.specs.Statement.{register}
-use Rattle.cfg.specs.Graph.{plain, then, else}
+use Rattle.cfg.specs.Graph.{plain-edge, then-edge, else-edge}
 use Rattle.cfg.proofs.Leaders.{Onward, straight-on, skips-none, leader-claimed}
 use Rattle.follow.proofs.Simulation.{Alike, both-go, both-ask, both-stop}
 use Prim.Native.Nat.{ℕ, _+_, _-_, _≤_, _<_}
@@ -75,7 +75,7 @@ module _ (p : Proto) where
   then-next i e = rw e
 
   branch-alike : (i k : ℕ) (op : Op) (following : At) (x y : ℕ) → Alongside p x following → Alongside p y (at (i + 2) 0) → Test p i k op following
-      → Alike (Alongside p) (nextBlock (ending (statementsBy p i op)) (then x ∷ else y ∷ [])) (doing p i k op .next)
+      → Alike (Alongside p) (nextBlock (ending (statementsBy p i op)) (then-edge x ∷ else-edge y ∷ [])) (doing p i k op .next)
   unfolding nextBlock answered ending endingOf testing condition
   branch-alike i k op following x y r s t = either-way (eqb (t .flag) 0)
       (λ z. let f : eqb (t .flag) 1 ≡ false = ne-eqb (t .flag) 1 (λ w. omega (arith, eqb-true (t .flag) 0 z)) in
@@ -132,13 +132,13 @@ module _ (p : Proto) where
         (λ d. rw d (rw (loop-front p i lt h d) at (at-code (thenOf p i) 0 (then-lands h .0) (then-lands h .1))))
 
     -- the Else edge of a test or of TFORLOOP
-    else-arrival : (f : Flow) → flowAt p i ≡ f → landsInside p i f ≡ ltb (i + 2) (size p) → claims p i f ≡ (i + 1) ∷ (i + 2) ∷ [] → leaving p i f ≡ then (i + 1) ∷ else (i + 2) ∷ [] → reaches p i f ≡ only (i + 2) → (isLoop p i ≡ true → thenOf p i ≡ i + 2 → ⊥) → Alongside p (blockOf p (i + 2)) (at (i + 2) 0)
+    else-arrival : (f : Flow) → flowAt p i ≡ f → landsInside p i f ≡ ltb (i + 2) (size p) → claims p i f ≡ (i + 1) ∷ (i + 2) ∷ [] → leaving p i f ≡ then-edge (i + 1) ∷ else-edge (i + 2) ∷ [] → reaches p i f ≡ only (i + 2) → (isLoop p i ≡ true → thenOf p i ≡ i + 2 → ⊥) → Alongside p (blockOf p (i + 2)) (at (i + 2) 0)
     unfolding sent
     else-arrival f e l c g r n =
         edge-arrival (i + 2) 0 (test-two f e l) (test-next f e c) (test-after f e c) (rw (e, g) (times-second (i + 2) (i + 1))) (λ h z. absurd (n h z)) (unset-reach p ok i (i + 2) lt (test-two f e l) (rw (e, r) (times-here (i + 2) (i + 2) [] refl)))
 
     -- the edge of a jump that is no loop
-    jump-arrival : (f : Flow) → flowAt p i ≡ f → landsInside p i f ≡ (leb 131071 (i + 1 + Bx p i) && ltb (target p i) (size p)) → claims p i f ≡ (i + 1) ∷ target p i ∷ [] → leaving p i f ≡ only (plain (target p i)) → reaches p i f ≡ only (target p i) → isLoop p i ≡ false → Alongside p (blockOf p (target p i)) (at (target p i) 0)
+    jump-arrival : (f : Flow) → flowAt p i ≡ f → landsInside p i f ≡ (leb 131071 (i + 1 + Bx p i) && ltb (target p i) (size p)) → claims p i f ≡ (i + 1) ∷ target p i ∷ [] → leaving p i f ≡ only (plain-edge (target p i)) → reaches p i f ≡ only (target p i) → isLoop p i ≡ false → Alongside p (blockOf p (target p i)) (at (target p i) 0)
     unfolding sent
     jump-arrival f e l c g r n =
         edge-arrival (target p i) 0 (jump-lands f e l) (jump-next f e c) (jump-leads f e c) (rw (e, g) (times-here (target p i) (target p i) [] refl)) (λ q. clash q n) (unset-reach p ok i (target p i) lt (jump-lands f e l) (rw (e, r) (times-here (target p i) (target p i) [] refl)))

@@ -10,7 +10,7 @@ use Rattle.lua51_deserializer.specs.Proto.{Proto}
 use Rattle.ast.specs.Statement.{Expr, Exprs, register, constant, nil, boolean, upvalue, global, index, unary, binary, call, vararg, closure, table, select, mark, []ᵉ, _∷ᵉ_, op-not}
 use Rattle.ast.specs.Statement.{Stmt, Tail, assign, call-statement, if-statement, return, for-init, for-next, set-list, close, no-tail, open-tail}
 use Rattle.cfg.specs.Graph.{Edge, entryOf}
-use Rattle.lua51_lifter.specs.Blocks.{Block, code, graph}
+use Rattle.lua51_lifter.specs.Blocks.{Block, kind-code, graph}
 use Rattle.follow.specs.Account.{Question, holds, continues, Action, does, opens, Event, Next, go, ask, stop, stuck, Step, account}
 
 -- ------------------------------------------------------------ expressions
@@ -169,7 +169,7 @@ nextBlock misplaced es = stuck
 
 -- in place of a block that the graph does not have
 abbrev pub no-block : Block
-no-block = record { first = 0; past = 0; kind = code; body = []; edges = [] }
+no-block = record { first = 0; past = 0; kind = kind-code; body = []; edges = [] }
 
 -- one block of a graph, by its number
 unfoldable pub graphStep : List Block → ℕ → Step ℕ

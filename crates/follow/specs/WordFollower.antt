@@ -30,15 +30,15 @@ owing acts i = record { owes = acts; word = i; kept = 0 }
 -- ------------------------------------------------------------ what a word's fields mean
 
 -- lopcodes.h's list of the opcodes, which numbers them from 0
-abbrev pub names : List Op
-names =
+abbrev pub opcode-names : List Op
+opcode-names =
     MOVE ∷ LOADK ∷ LOADBOOL ∷ LOADNIL ∷ GETUPVAL ∷ GETGLOBAL ∷ GETTABLE ∷ SETGLOBAL ∷ SETUPVAL ∷ SETTABLE ∷
     NEWTABLE ∷ SELF ∷ ADD ∷ SUB ∷ MUL ∷ DIV ∷ MOD ∷ POW ∷ UNM ∷ NOT ∷ LEN ∷ CONCAT ∷ JMP ∷ EQ ∷ LT ∷ LE ∷ TEST ∷
     TESTSET ∷ CALL ∷ TAILCALL ∷ RETURN ∷ FORLOOP ∷ FORPREP ∷ TFORLOOP ∷ SETLIST ∷ CLOSE ∷ CLOSURE ∷ VARARG ∷ []
 
 -- the opcode of word i, where there is such a word
 unfoldable pub named : Proto → ℕ → Op
-named p i = cond (ltb i (size p)) (getD names (opcode p i) UNKNOWN) UNKNOWN
+named p i = cond (ltb i (size p)) (getD opcode-names (opcode p i) UNKNOWN) UNKNOWN
 
 -- RK(x): 'An operand B or C that may be either is a constant (less 256) above 255'
 unfoldable pub RK : ℕ → Expr

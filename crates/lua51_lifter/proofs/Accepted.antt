@@ -7,7 +7,7 @@ use lib.Dec.{leb, ltb, eqb}
 use borrow.Author.Tests.{ltb-true, ltb-false, leb-true, eqb-true, eqb-false, eq-eqb}
 use Rattle.lua51_deserializer.specs.Word.{TESTSET, RETURN, CLOSURE, UNKNOWN, Flow, rowOf, numberOf}
 use Rattle.lua51_deserializer.specs.Proto.{Proto, size, opcode, is, A, flowAt, B, C, capturesOf}
-use Rattle.lua51_lifter.specs.Check.{check, fine, lastFault, refuseIf, Verdict, _else_, user, first, slot, missing-results, operandFault, useVerdict, operand, opener, wordVerdict, unused-results, reached, matches, headFault, allCaptures, landsInside, reaches}
+use Rattle.lua51_lifter.specs.Check.{check, fine, lastFault, refuseIf, Verdict, _else_, user, firstRefusal, slot, missing-results, operandFault, useVerdict, operand, opener, wordVerdict, unused-results, reached, matches, headFault, allCaptures, landsInside, reaches}
 use Rattle.cfg.specs.Graph.{leader}
 use Rattle.lua51_lifter.proofs.Verdicts.{refused-not, else-then, first-all, else-first}
 use Rattle.lua51_deserializer.proofs.Tests.{and-left, or-left, not-is, either-way, and-right, clash, not-not, or-right, and-not}
@@ -20,10 +20,10 @@ module _ (p : Proto) (ok : check p ≡ fine) where
   -- ------------------------------------------------------------ the verdicts
 
   abbrev of-words : Verdict
-  of-words = first (wordVerdict p) 0 (size p)
+  of-words = firstRefusal (wordVerdict p) 0 (size p)
 
   abbrev of-uses : Verdict
-  of-uses = first (useVerdict p) 0 (size p)
+  of-uses = firstRefusal (useVerdict p) 0 (size p)
 
   from-last : refuseIf (lastFault p) 8 (size p - 1) else of-words else of-uses ≡ fine
   unfolding check

@@ -10,8 +10,8 @@ use Rattle.lines.specs.Line.{digits, decimal, column, line}
 use Rattle.lines.specs.Text.{bytes}
 use Rattle.lua51_deserializer.specs.Chunk.{Value, Text, kind-string, kind-nil, Nil, kindOf}
 use Rattle.cfg.specs.Graph.{claims, leader, blockOf, leaderFrom, past, leaving, exits, entering, isLoop, thenOf, diverted, betweenOf}
-use Rattle.lua51_lifter.specs.Check.{first, headFault, lastFault, operand, operandFault, landsInside, tests, wordVerdict, opener, user, slot, matches, unused-results, missing-results, allCaptures, reaches, reached, useVerdict, check, fine}
-use Rattle.ast.specs.Statement.{count, expr, exprs, tail, run, registers}
+use Rattle.lua51_lifter.specs.Check.{firstRefusal, headFault, lastFault, operand, operandFault, landsInside, tests, wordVerdict, opener, user, slot, matches, unused-results, missing-results, allCaptures, reaches, reached, useVerdict, check, fine}
+use Rattle.ast.specs.Statement.{count, expr, exprs, tailNumbers, run, registers}
 use Rattle.lua51_lifter.specs.Lift.{rk, condition, concatenated, captures, taken, opened, statementsBy, pending, statements, onThen}
 use Rattle.lua51_lifter.specs.Blocks.{front, leads, codeBlock, entryBlock, betweenBlock, graph}
 use Rattle.lua51_lifter.specs.Listing.{value, constantLines, statementLine, edgeLine, blockLine, blockLines, listing}
@@ -267,13 +267,13 @@ sample-listing =
     ++ bytes "E      0      0\n"
 
 sample-accepted : check sample ≡ fine
-unfolding sum times opOf row rowOf claims leader first headFault lastFault operand operandFault landsInside tests
+unfolding sum times opOf row rowOf claims leader firstRefusal headFault lastFault operand operandFault landsInside tests
     wordVerdict opener user slot matches unused-results missing-results allCaptures reaches reached useVerdict check sample sample-words
 sample-accepted = refl
 
 sample-listed : listing sample sample-constants ≡ sample-listing
 unfolding flatMap digits decimal column line bytes over sum times opOf row rowOf claims leader blockOf leaderFrom past
-    leaving exits entering isLoop thenOf diverted betweenOf count expr exprs tail run registers rk condition
+    leaving exits entering isLoop thenOf diverted betweenOf count expr exprs tailNumbers run registers rk condition
     concatenated captures taken opened statementsBy pending statements onThen front leads codeBlock entryBlock
     betweenBlock graph kindOf value constantLines statementLine edgeLine blockLine blockLines listing sample sample-words sample-constants sample-listing
 sample-listed = refl
@@ -315,7 +315,7 @@ onward-listing =
 
 onward-listed : listing onward [] ≡ onward-listing
 unfolding flatMap digits decimal column line bytes over sum times opOf row rowOf claims leader blockOf leaderFrom past
-    leaving exits entering isLoop thenOf diverted betweenOf count expr exprs tail run registers rk condition
+    leaving exits entering isLoop thenOf diverted betweenOf count expr exprs tailNumbers run registers rk condition
     concatenated captures taken opened statementsBy pending statements onThen front leads codeBlock entryBlock
     betweenBlock graph kindOf value constantLines statementLine edgeLine blockLine blockLines listing onward onward-listing
 onward-listed = refl

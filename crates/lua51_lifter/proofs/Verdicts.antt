@@ -3,7 +3,7 @@ use mathlib.Core.Bool.{Bool, true, false, not, _&&_, _||_}
 use Prim.Native.Nat.{ℕ, zero, suc, _+_, _<_, _≤_, _-_}
 use native.Mathlib.Omega.{arith}
 use mathlib.Core.Path.{_≡_, refl, subst}
-use Rattle.lua51_lifter.specs.Check.{refuseIf, Verdict, first, fine, _else_, wrong, check, wordVerdict, useVerdict, operandFault, headFault, unused-results, lastFault, missing-results, landsInside, tests, allCaptures, reached}
+use Rattle.lua51_lifter.specs.Check.{refuseIf, Verdict, firstRefusal, fine, _else_, wrong, check, wordVerdict, useVerdict, operandFault, headFault, unused-results, lastFault, missing-results, landsInside, tests, allCaptures, reached}
 use Rattle.lua51_deserializer.specs.Proto.{Proto, size, flowAt, is, capturesOf}
 use Rattle.lua51_deserializer.specs.Word.{JMP, TESTSET, CLOSURE}
 
@@ -19,13 +19,13 @@ pub refused-not : (b : Bool) (n p : ℕ) → refuseIf b n p ≡ fine → b ≡ f
 refused-not true n p h = cc
 refused-not false n p h = refl
 
-pub first-fine : (f : ℕ → Verdict) (from k : ℕ) → first f from k ≡ fine → (i : ℕ) → i < k → f (from + i) ≡ fine
-unfolding first
+pub first-fine : (f : ℕ → Verdict) (from k : ℕ) → firstRefusal f from k ≡ fine → (i : ℕ) → i < k → f (from + i) ≡ fine
+unfolding firstRefusal
 first-fine f from zero h i lt = absurd (omega arith)
-first-fine f from (suc k) h zero lt = subst (λ (x : ℕ). f x ≡ fine) (omega arith) (else-first (f from) (first f (from + 1) k) h)
-first-fine f from (suc k) h (suc i) lt = subst (λ (x : ℕ). f x ≡ fine) (omega arith) (first-fine f (from + 1) k (else-then (f from) (first f (from + 1) k) h) i (omega arith))
+first-fine f from (suc k) h zero lt = subst (λ (x : ℕ). f x ≡ fine) (omega arith) (else-first (f from) (firstRefusal f (from + 1) k) h)
+first-fine f from (suc k) h (suc i) lt = subst (λ (x : ℕ). f x ≡ fine) (omega arith) (first-fine f (from + 1) k (else-then (f from) (firstRefusal f (from + 1) k) h) i (omega arith))
 
-pub first-all : (f : ℕ → Verdict) (k : ℕ) → first f 0 k ≡ fine → (i : ℕ) → i < k → f i ≡ fine
+pub first-all : (f : ℕ → Verdict) (k : ℕ) → firstRefusal f 0 k ≡ fine → (i : ℕ) → i < k → f i ≡ fine
 first-all f k h i lt = let e : 0 + i ≡ i = omega arith in rw e at (first-fine f 0 k h i lt)
 
 -- ------------------------------------------------------------ the numbers of refusals
@@ -43,8 +43,8 @@ refuse-from : {k : ℕ} (fault : Bool) (n p : ℕ) → k ≤ n → From k (refus
 refuse-from true n p h = from-on h
 refuse-from false n p h = not-one
 
-first-from : {k : ℕ} (f : ℕ → Verdict) → ((i : ℕ) → From k (f i)) → (from count : ℕ) → From k (first f from count)
-unfolding first
+first-from : {k : ℕ} (f : ℕ → Verdict) → ((i : ℕ) → From k (f i)) → (from count : ℕ) → From k (firstRefusal f from count)
+unfolding firstRefusal
 first-from f h from zero = not-one
 first-from f h from (suc count) = else-from (h from) (first-from f h (from + 1) count)
 

@@ -7,7 +7,7 @@ use Rattle.lua51_deserializer.specs.Range.{over, only}
 use Rattle.lua51_deserializer.specs.Word.{TESTSET}
 use Rattle.lua51_deserializer.specs.Proto.{Proto, size, flowAt, is}
 use Rattle.ast.specs.Statement.{Stmt, nil, set-register}
-use Rattle.cfg.specs.Graph.{leader, blockOf, past, Edge, plain, leaving, entering, thenOf, isLoop, diverted, betweenOf}
+use Rattle.cfg.specs.Graph.{leader, blockOf, past, Edge, plain-edge, leaving, entering, thenOf, isLoop, diverted, betweenOf}
 use Rattle.lua51_lifter.specs.Lift.{statements, onThen}
 
 -- 'B: block, first word, one past the last, kind (0 code, 1 entry, 2 between; for 1 and 2 both words are n)', with its
@@ -19,14 +19,14 @@ pub record Block : Type 0 where
   pub body : List Stmt
   pub edges : List Edge
 
-abbrev pub code : ℕ
-code = 0
+abbrev pub kind-code : ℕ
+kind-code = 0
 
-abbrev pub entry : ℕ
-entry = 1
+abbrev pub kind-entry : ℕ
+kind-entry = 1
 
-abbrev pub between : ℕ
-between = 2
+abbrev pub kind-between : ℕ
+kind-between = 2
 
 -- document 01's front of the block whose range starts at t: the assignment of a TESTSET before it, or that of the loop
 -- whose Then edge alone enters the block
@@ -49,7 +49,7 @@ codeBlock p j =
     record {
       first = j;
       past = end;
-      kind = code;
+      kind = kind-code;
       body = front p j ++ over (statements p) j (end - j);
       edges = cond (eqb j (size p)) [] (map (leads p last) (leaving p last (flowAt p last)));
     }
@@ -59,9 +59,9 @@ unfoldable pub entryBlock : Proto → Block
 entryBlock p = record {
   first = size p;
   past = size p;
-  kind = entry;
+  kind = kind-entry;
   body = over (λ r. only (set-register r nil)) (p .parameters) (p .stack - p .parameters);
-  edges = only (plain 0);
+  edges = only (plain-edge 0);
 }
 
 -- the between block of the loop at word i
@@ -69,9 +69,9 @@ unfoldable pub betweenBlock : Proto → ℕ → Block
 betweenBlock p i = record {
   first = size p;
   past = size p;
-  kind = between;
+  kind = kind-between;
   body = onThen p i;
-  edges = only (plain (blockOf p (thenOf p i)));
+  edges = only (plain-edge (blockOf p (thenOf p i)));
 }
 
 -- the blocks in the order of their numbers: 'code blocks ascending, entry, betweens by their loop's block'

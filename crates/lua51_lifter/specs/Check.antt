@@ -30,9 +30,9 @@ abbrev pub refuseIf : Bool → ℕ → ℕ → Verdict
 refuseIf fault n p = cond fault (wrong n p) fine
 
 -- the first refusal that f gives at the numbers of a range
-unfoldable pub first : (ℕ → Verdict) → ℕ → ℕ → Verdict
-first f from zero = fine
-first f from (suc count) = f from else first f (from + 1) count
+unfoldable pub firstRefusal : (ℕ → Verdict) → ℕ → ℕ → Verdict
+firstRefusal f from zero = fine
+firstRefusal f from (suc count) = f from else firstRefusal f (from + 1) count
 
 -- ------------------------------------------------------------ 7 and 8: the function's head
 
@@ -199,5 +199,5 @@ unfoldable pub check : Proto → Verdict
 check p =
     refuseIf (headFault p) 7 0
     else refuseIf (lastFault p) 8 (size p - 1)
-    else first (wordVerdict p) 0 (size p)
-    else first (useVerdict p) 0 (size p)
+    else firstRefusal (wordVerdict p) 0 (size p)
+    else firstRefusal (useVerdict p) 0 (size p)
