@@ -5,11 +5,14 @@ use mathlib.Core.List.{List, [], _∷_}
 use Prim.Native.Nat.{ℕ, suc, _+_, _-_, _≤_, _<_}
 use native.Mathlib.Omega.{arith}
 use native.Mathlib.Nat.{sub-zero}
+use native.Mathlib.Numerals.{add-one}
 use borrow.Author.Tests.{leb-true, leb-false, le-leb, lt-leb}
 use lib.Dec.{leb}
+use lib.ListN.{length, drop, getD, drop-of-length-le}
+use lib.Seq.{drop-cons}
 use types.Run.{OneOf, miss}
 use denote.Enum.Declared.{tagOf}
-use Rattle.lua51_deserializer.specs.Chunk.{Read, here, refused, _then_, again}
+use Rattle.lua51_deserializer.specs.Chunk.{Read, here, refused, _then_, again, exactly, signature}
 use Rattle.lua51_deserializer.specs.Cursor.{readOf}
 use Rattle.lua51_deserializer.specs.declared.fields.Cursor.{Cursor}
 use Rattle.lua51_deserializer.specs.declared.fields.Cursor.the-variants.{Here, TooLong, HeaderDiffers, Ended, OutOfRange, TooManyFunctions, LeftOver}
@@ -32,10 +35,6 @@ sticky (LeftOver i) f h = refl
 pub goes : (c : Cursor) (f : ℕ → Read) (i : ℕ) (r : Read) → c ≡ Here i → r ≡ f i → r ≡ (readOf c then f)
 goes c f i r e h = rw e h
 
--- two readers that agree where the cursor stands
-pub same : (c : Cursor) (f g : ℕ → Read) (i : ℕ) → c ≡ Here i → f i ≡ g i → (readOf c then f) ≡ (readOf c then g)
-same c f g i e h = rw e h
-
 -- a reader that is two readers in turn
 pub in-turn : (r : Read) (f g : ℕ → Read) → (r then (λ i. f i then g)) ≡ (r then f then g)
 in-turn (here i) f g = refl
@@ -50,6 +49,10 @@ pub within-left : (k a n : ℕ) → a ≤ n → leb k (n - a) ≡ leb (a + k) n
 within-left k a n h = either-way (leb (a + k) n)
     (λ e. le-leb k (n - a) (omega (arith, leb-true (a + k) n e)) ∙ sym e)
     (λ e. lt-leb k (n - a) (omega (arith, leb-false (a + k) n e)) ∙ sym e)
+
+nothing : (r : Read) → (r then (λ i. here i)) ≡ r
+nothing (here i) = refl
+nothing (refused n p) = refl
 
 -- ------------------------------------------------------------ a reader, time and again
 
@@ -67,7 +70,15 @@ module _ (f : ℕ → Read) (n : ℕ) where
   pub again-none : (i : ℕ) (r : Read) → n ≤ i → (r then again f (n - i)) ≡ r
   unfolding again
   again-none i r h = let d : n - i ≡ 0 = omega arith in rw d (nothing r)
-    where
-      nothing : (r : Read) → (r then (λ i. here i)) ≡ r
-      nothing (here i) = refl
-      nothing (refused n p) = refl
+
+-- ------------------------------------------------------------ the header
+
+module _ (s bs : List ℕ) (i : ℕ) where
+  -- its i-th byte
+  pub signature-turn : (r q : Read) → i < length bs → q ≡ (r then exactly s (getD bs i 0)) → (q then signature s (drop (i + 1) bs)) ≡ (r then signature s (drop i bs))
+  unfolding signature
+  signature-turn r q h e = rw (e, drop-cons bs i 0 h, add-one i) (sym (in-turn r (exactly s (getD bs i 0)) (signature s (drop (suc i) bs))))
+
+  pub signature-none : (r : Read) → length bs ≤ i → (r then signature s (drop i bs)) ≡ r
+  unfolding signature
+  signature-none r h = rw (drop-of-length-le bs h) (nothing r)
