@@ -61,10 +61,10 @@ pub walk-is : {q r : Read} {ps qs : List Place} → q ≡ r → ps ≡ qs → wa
 walk-is e d = λ i. walked (e i) (d i)
 
 -- the count of nested functions, and then each of them
-pub nested : (s : List ℕ) (f : List Place → ℕ → Walk) (ps : List Place) (i n : ℕ) (r : Read) → r ≡ countTo s most i → n ≡ intAt s i
-    → (walked r ps next many f n) ≡ nest s f ps i
+pub nested : (s : List ℕ) (f : List Place → ℕ → Walk) (ps : List Place) (i n : ℕ) (w : Walk) → w ≡ walked (countTo s most i) ps → n ≡ intAt s i
+    → (w next many f n) ≡ nest s f ps i
 unfolding nest
-nested s f ps i n r e d = rw (e, d)
+nested s f ps i n w e d = rw (e, d)
 
 module _ (s : List ℕ) (depth parent : ℕ) (ps : List Place) (i : ℕ) where
   pub function-deep : depth ≡ 0 → function s depth parent ps i ≡ walked (refused 5 i) ps

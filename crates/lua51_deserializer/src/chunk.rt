@@ -14,7 +14,7 @@ use crate::fields::names;
 use crate::fields::whole;
 ghost use mathlib.Core.Path.{_≡_};
 ghost use Prim.Native.Nat.{_<_};
-ghost use Rattle.lua51_deserializer.specs.Chunk.{_then_, _next_, exactly, signature, header, begin, finish, function, ends, walk};
+ghost use Rattle.lua51_deserializer.specs.Chunk.{refused, _then_, _next_, walked, countTo, most, exactly, signature, header, begin, finish, function, ends, walk};
 ghost use Rattle.lua51_deserializer.specs.Cursor.{readOf};
 ghost use Rattle.lua51_deserializer.specs.Walked.{walkOf, placesOf};
 
@@ -66,10 +66,11 @@ fn exactly(s: &[u8], c: Cursor, b: u8) -> Cursor
         return c;
     };
     if whole(s, at, 1) {
+        let behind = at + 1;
         if byte_at(s, at) != b {
             return Cursor::HeaderDiffers(at);
         }
-        return Cursor::Here(at + 1);
+        return Cursor::Here(behind);
     }
     Cursor::Ended(at)
 }
@@ -87,20 +88,45 @@ fn signature(s: &[u8]) -> Cursor
     read
 }
 
-// A function that is nested in function `parent` begins: it is placed, and all up to its nested functions is read.
-fn begin(s: &[u8], at: usize, parent: u8, functions: Functions) -> Walked
-    requires { ⌜ functions .count < 256 ⌝ }
-    ensures { λ r. ⌜ walkOf r ≡ begin (now (s .entry)) parent (placesOf functions) at ⌝ }
+// A function at offset `at` that is one too many, or too deep.
+fn too_many(at: usize, w: Walked) -> Walked
+    ensures { λ r. ⌜ walkOf r ≡ walked (refused 5 at) (placesOf (w .functions)) ⌝ }
 {
-    let number = functions.count;
-    let mut placed = functions;
+    let functions = w.functions;
+    Walked {
+        cursor: Cursor::TooManyFunctions(at),
+        functions,
+    }
+}
+
+// A function that is nested in function `parent` begins at offset `at`: it is placed, and all up to its nested functions is
+// read.
+fn begin(s: &[u8], at: usize, parent: u8, w: Walked) -> Walked
+    requires { ⌜ w .functions .count < 256 ⌝ }
+    ensures { λ r. ⌜ walkOf r ≡ begin (now (s .entry)) parent (placesOf (w .functions)) at ⌝ }
+{
+    let mut placed = w.functions;
+    let number = placed.count;
+    let next = number + 1;
     placed.starts[number] = at;
     placed.tails[number] = 0;
     placed.parents[number] = parent;
-    placed.count = number + 1;
+    placed.count = next;
     Walked {
         cursor: constants(s, code(s, head(s, Cursor::Here(at)))),
         functions: placed,
+    }
+}
+
+// The count of a function's nested functions.
+fn nested_count(s: &[u8], w: Walked) -> Walked
+    ensures { λ r. ⌜ walkOf r ≡ walked (readOf (w .cursor) then countTo (now (s .entry)) most) (placesOf (w .functions)) ⌝ }
+{
+    let cursor = w.cursor;
+    let functions = w.functions;
+    Walked {
+        cursor: count_to(s, cursor, MOST),
+        functions,
     }
 }
 
@@ -129,32 +155,21 @@ fn function(s: &[u8], depth: usize, parent: u8, w: Walked) -> Walked
     let Cursor::Here(at) = cursor else {
         return w;
     };
-    let functions = w.functions;
-    let count = functions.count;
+    let count = w.functions.count;
     if depth == 0 {
-        return Walked {
-            cursor: Cursor::TooManyFunctions(at),
-            functions,
-        };
+        return too_many(at, w);
     }
     if MOST_FUNCTIONS <= count {
-        return Walked {
-            cursor: Cursor::TooManyFunctions(at),
-            functions,
-        };
+        return too_many(at, w);
     }
     let me = count as u8;
-    let begun = begin(s, at, parent, functions);
-    let behind = begun.cursor;
+    let mut walked = begin(s, at, parent, w);
+    let behind = walked.cursor;
     let Cursor::Here(nested) = behind else {
-        return begun;
+        return walked;
     };
-    let placed = begun.functions;
+    walked = nested_count(s, walked);
     let n = int_at(s, nested);
-    let mut walked = Walked {
-        cursor: count_to(s, behind, MOST),
-        functions: placed,
-    };
     let mut i: u32 = 0;
     while i < n {
         walked = function(s, depth - 1, me, walked);
@@ -196,15 +211,11 @@ pub fn walk(s: &[u8]) -> Walked
             functions: none,
         };
     }
-    let main = function(
-        s,
-        MOST_DEPTH,
-        0,
-        Walked {
-            cursor: signature(s),
-            functions: none,
-        },
-    );
+    let begun = Walked {
+        cursor: signature(s),
+        functions: none,
+    };
+    let main = function(s, MOST_DEPTH, 0, begun);
     let read = main.cursor;
     let functions = main.functions;
     Walked {

@@ -12,24 +12,24 @@ use Rattle.lua51_deserializer.proofs.chunk.ends.Reads as ends-reads
 use Rattle.lua51_deserializer.proofs.chunk.function.Reads as function-reads
 use Rattle.lua51_deserializer.proofs.chunk.signature.Reads as signature-reads
 
--- src/chunk.rt:169:9
+-- src/chunk.rt:209:9
 returns : tie.Need-returns
 unfolding over
 returns c = walk-long (c .before .before .args .s .now) (c .if1 .taken)
 
--- src/chunk.rt:179:21
+-- src/chunk.rt:215:17
 signature-requires : tie.Need-signature-requires
 signature-requires c κs = search needs
 
--- src/chunk.rt:174:9
+-- src/chunk.rt:218:9
 function-requires : tie.Need-function-requires
 function-requires c κs = search needs
 
--- src/chunk.rt:186:17
+-- src/chunk.rt:222:17
 ends-requires : tie.Need-ends-requires
 ends-requires c κs = search needs
 
--- src/chunk.rt:159:1
+-- src/chunk.rt:199:1
 returns-2 : tie.Need-returns-2
 unfolding over
 returns-2 c =
