@@ -1,0 +1,43 @@
+use mathlib.Core.Path.{_∙_}
+use borrow.Author.Needs.{needs}
+use Rattle.lua51_deserializer.specs.Cursor.{readOf}
+use Rattle.lua51_deserializer.specs.Walked.{walkOf}
+use Rattle.lua51_deserializer.specs.Range.{over}
+use Rattle.lua51_deserializer.proofs.Nesting.{walk-long, walk-whole}
+use Rattle.lua51_deserializer.proofs.chunk.walk.Statement.{statement}
+use Rattle.lua51_deserializer.proofs.chunk.walk.Tie as tie
+use Rattle.lua51_deserializer.proofs.chunk.walk.Reads as reads
+use Rattle.lua51_deserializer.proofs.chunk.walk.Lts as lts
+use Rattle.lua51_deserializer.proofs.chunk.ends.Reads as ends-reads
+use Rattle.lua51_deserializer.proofs.chunk.function.Reads as function-reads
+use Rattle.lua51_deserializer.proofs.chunk.signature.Reads as signature-reads
+
+-- src/chunk.rt:209:9
+returns : tie.Need-returns
+unfolding over
+returns c = walk-long (c .before .before .args .s .now) (c .if1 .taken)
+
+-- src/chunk.rt:215:17
+signature-requires : tie.Need-signature-requires
+signature-requires c κs = search needs
+
+-- src/chunk.rt:218:9
+function-requires : tie.Need-function-requires
+function-requires c κs = search needs
+
+-- src/chunk.rt:222:17
+ends-requires : tie.Need-ends-requires
+ends-requires c κs = search needs
+
+-- src/chunk.rt:199:1
+returns-2 : tie.Need-returns-2
+unfolding over
+returns-2 c =
+    let m = c .before .before in
+    let a = m .before .before .before .before .args in
+    walk-whole (a .s .now) (walkOf (m .function .result)) (readOf (c .ends .result)) (m .before .before .if1 .left)
+    (m .function .ensures ∙ rw (m .before .signature .ensures)) (c .ends .ensures)
+
+pub walk-spec : {M : Type 1} → statement M
+walk-spec =
+    tie.close (tie.spec returns signature-requires function-requires ends-requires returns-2)

@@ -1,0 +1,25 @@
+-- The numbers and places of document 01 for what the readers of fields answer.
+use Prim.Native.Nat.{ℕ}
+use mathlib.Core.List.{List}
+use Rattle.lua51_deserializer.specs.Chunk.{Read, here, refused, _then_, field, string, constant}
+use Rattle.lua51_deserializer.specs.declared.fields.Cursor.{Cursor}
+use Rattle.lua51_deserializer.specs.declared.fields.Cursor.the-variants.{Here, TooLong, HeaderDiffers, Ended, OutOfRange, TooManyFunctions, LeftOver}
+use Rattle.lua51_deserializer.specs.declared.fields.Element.{Element}
+use Rattle.lua51_deserializer.specs.declared.fields.Element.the-variants.{Number, Constant, Local, Name}
+
+-- 'Each gives number, function, place. For 1 to 6 the function is 0.'
+abbrev pub readOf : Cursor → Read
+readOf (Here i) = here i
+readOf TooLong = refused 1 0
+readOf (HeaderDiffers i) = refused 2 i
+readOf (Ended i) = refused 3 i
+readOf (OutOfRange i) = refused 4 i
+readOf (TooManyFunctions i) = refused 5 i
+readOf (LeftOver i) = refused 6 i
+
+-- what reads one element of a counted list: a word or a line, a constant, a local ('string and two 4-byte numbers'), a name
+abbrev pub elementOf : List ℕ → Element → ℕ → Read
+elementOf s Number = field s 4
+elementOf s Constant = constant s
+elementOf s Local = λ i. string s i then field s 4 then field s 4
+elementOf s Name = string s

@@ -1,0 +1,42 @@
+// Bytes of a chunk, and numbers of four of them.
+ghost use mathlib.Core.Path.{_≡_};
+ghost use Prim.Native.Nat.{_+_, _<_};
+ghost use Rattle.lua51_deserializer.specs.Chunk.{byteAt, intAt};
+
+// The byte `k` bytes behind offset `at`; 0 past the end.
+fn byte_behind(s: &[u8], at: usize, k: usize) -> u8
+    ensures { λ r. ⌜ r ≡ byteAt (now (s .entry)) (at + k) ⌝ }
+{
+    if s.len() <= at {
+        return 0;
+    }
+    if s.len() - at <= k {
+        return 0;
+    }
+    s[at + k]
+}
+
+// A byte as a number of 32 bits.
+fn wide(b: u8) -> u32
+    ensures { λ r. ⌜ (r ≡ b) × (r < 256) ⌝ }
+{
+    b as u32
+}
+
+// The byte at offset `at`; 0 past the end.
+pub fn byte_at(s: &[u8], at: usize) -> u8
+    ensures { λ r. ⌜ r ≡ byteAt (now (s .entry)) at ⌝ }
+{
+    byte_behind(s, at, 0)
+}
+
+// The number in the four bytes from offset `at` on, lowest first; bytes past the end count as 0.
+pub fn int_at(s: &[u8], at: usize) -> u32
+    ensures { λ r. ⌜ r ≡ intAt (now (s .entry)) at ⌝ }
+{
+    let lowest = wide(byte_behind(s, at, 0));
+    let second = wide(byte_behind(s, at, 1));
+    let third = wide(byte_behind(s, at, 2));
+    let highest = wide(byte_behind(s, at, 3));
+    lowest + 256 * (second + 256 * (third + 256 * highest))
+}
