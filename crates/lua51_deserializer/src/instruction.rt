@@ -1,7 +1,7 @@
 // An instruction word of Lua 5.1: its fields, its operands, and the table of opcodes (lopcodes.h).
 ghost use mathlib.Core.Path.{_≡_};
-ghost use Rattle.lua51_deserializer.specs.Word.{fieldOpcode, fieldA, fieldB, fieldC, fieldBx};
-ghost use Rattle.lua51_deserializer.specs.Instruction.{sBx, targetOf, rowNumbers, instructionOf};
+ghost use Rattle.lua51_deserializer.specs.Word.{fieldOpcode, fieldA, fieldB, fieldC, fieldBx, rowOf};
+ghost use Rattle.lua51_deserializer.specs.Instruction.{sBx, targetOf, kindNumbered, flowNumbered, inNumbers, Means, Decodes};
 use crate::bits::field;
 
 // ------------------------------------------------------------ fields
@@ -107,360 +107,267 @@ pub fn jump_target(i: usize, n: usize, word: u32) -> Target
 
 // ------------------------------------------------------------ the table of opcodes
 
-// The kinds of operands: what each stands for.
-// Nothing reads it.
-pub const UNUSED: u8 = 0;
-// R(x).
-pub const REGISTER: u8 = 1;
-// RK(x): a register, or a constant less 256 above 255.
-pub const EITHER: u8 = 2;
-// UpValue[x].
-pub const UPVALUE: u8 = 3;
-// 0 or 1.
-pub const FLAG: u8 = 4;
-// Kst(Bx).
-pub const CONSTANT: u8 = 5;
-// Kst(Bx), which names a global.
-pub const GLOBAL: u8 = 6;
-// KPROTO[Bx].
-pub const NESTED: u8 = 7;
-// sBx.
-pub const OFFSET: u8 = 8;
-// The first of R(A), R(A+1).
-pub const PAIR: u8 = 9;
-// The first of R(A) to R(A+3).
-pub const QUARTET: u8 = 10;
-// The last of the run that starts at R(A).
-pub const LAST_FROM_A: u8 = 11;
-// The last of the run that starts at R(B).
-pub const LAST_FROM_B: u8 = 12;
-// One more than the count of the run that starts at R(A+1); 0 where it is open.
-pub const ARGUMENTS: u8 = 13;
-// One more than the count of the run that starts at R(A); 0 where it is open.
-pub const VALUES: u8 = 14;
-// As VALUES, of the function's variable arguments.
-pub const VARARGS: u8 = 15;
-// The count of the run that starts at R(A+1); 0 where it is open.
-pub const ELEMENTS: u8 = 16;
-// The count of the run that starts at R(A+3).
-pub const VARIABLES: u8 = 17;
-// A block's number, from 1.
-pub const BLOCK_NUMBER: u8 = 18;
+// An operand's kind: what it stands for.
+pub enum Kind {
+    // Nothing reads it.
+    Unused,
+    // R(x).
+    Register,
+    // RK(x).
+    Either,
+    // UpValue[x].
+    Upvalue,
+    // 0 or 1.
+    Flag,
+    // Kst(Bx).
+    Constant,
+    // Kst(Bx), which names a global.
+    Global,
+    // KPROTO[Bx].
+    Nested,
+    // sBx.
+    Offset,
+    // The first of R(A), R(A+1).
+    Pair,
+    // The first of R(A) to R(A+3).
+    Quartet,
+    // The last of the run that starts at R(A).
+    LastFromA,
+    // The last of the run that starts at R(B).
+    LastFromB,
+    // One more than the count of the run that starts at R(A+1); 0 where it is open.
+    Arguments,
+    // One more than the count of the run that starts at R(A); 0 where it is open.
+    Values,
+    // As Values, of the function's variable arguments.
+    Varargs,
+    // The count of the run that starts at R(A+1); 0 where it is open.
+    Elements,
+    // The count of the run that starts at R(A+3).
+    Variables,
+    // A block's number, from 1.
+    BlockNumber,
+}
 
 // Where control goes behind a word.
-// To the next word.
-pub const STRAIGHT: u8 = 0;
-// To the next word, or to the one after where C is 1.
-pub const SKIP: u8 = 1;
-// To the target.
-pub const JUMP: u8 = 2;
-// To the next word or to the one after.
-pub const TEST: u8 = 3;
-// As a test, with an assignment before the next word.
-pub const TEST_SET: u8 = 4;
-// To the target, into a numeric loop.
-pub const LOOP_ENTRY: u8 = 5;
-// To the target, with an assignment before it, or to the next word.
-pub const NUMERIC_LOOP: u8 = 6;
-// To the next word, with an assignment before it, or to the one after.
-pub const GENERIC_LOOP: u8 = 7;
-// Out of the function.
-pub const EXIT: u8 = 8;
-
-// What the table says of an opcode: the kinds of its operands, and its flow. The kind of Bx or sBx stands under b.
-pub struct Row {
-    pub a: u8,
-    pub b: u8,
-    pub c: u8,
-    pub flow: u8,
+pub enum Flow {
+    // To the next word.
+    Straight,
+    // To the next word, or to the one after where C is 1.
+    Skip,
+    // To the target.
+    Jump,
+    // To the next word or to the one after.
+    Test,
+    // As a test, with an assignment before the next word.
+    TestSet,
+    // To the target, into a numeric loop.
+    LoopEntry,
+    // To the target, with an assignment before it, or to the next word.
+    NumericLoop,
+    // To the next word, with an assignment before it, or to the one after.
+    GenericLoop,
+    // Out of the function.
+    Exit,
 }
+
+// The number of each kind in the table.
+const UNUSED: u8 = 0;
+
+const REGISTER: u8 = 1;
+
+const EITHER: u8 = 2;
+
+const UPVALUE: u8 = 3;
+
+const FLAG: u8 = 4;
+
+const CONSTANT: u8 = 5;
+
+const GLOBAL: u8 = 6;
+
+const NESTED: u8 = 7;
+
+const OFFSET: u8 = 8;
+
+const PAIR: u8 = 9;
+
+const QUARTET: u8 = 10;
+
+const LAST_FROM_A: u8 = 11;
+
+const LAST_FROM_B: u8 = 12;
+
+const ARGUMENTS: u8 = 13;
+
+const VALUES: u8 = 14;
+
+const VARARGS: u8 = 15;
+
+const ELEMENTS: u8 = 16;
+
+const VARIABLES: u8 = 17;
+
+const BLOCK_NUMBER: u8 = 18;
+
+// The kinds by number.
+const KIND_COUNT: usize = 19;
+
+const KINDS: [Kind; KIND_COUNT] = [
+    Kind::Unused,
+    Kind::Register,
+    Kind::Either,
+    Kind::Upvalue,
+    Kind::Flag,
+    Kind::Constant,
+    Kind::Global,
+    Kind::Nested,
+    Kind::Offset,
+    Kind::Pair,
+    Kind::Quartet,
+    Kind::LastFromA,
+    Kind::LastFromB,
+    Kind::Arguments,
+    Kind::Values,
+    Kind::Varargs,
+    Kind::Elements,
+    Kind::Variables,
+    Kind::BlockNumber,
+];
+
+// The kind of a number; a number above the last is no kind's and stands for nothing.
+fn kind_of(number: u8) -> Kind
+    ensures { λ r. ⌜ r ≡ kindNumbered number ⌝ }
+{
+    let i = number as usize;
+    if i < KIND_COUNT {
+        return KINDS[i];
+    }
+    Kind::Unused
+}
+
+// The number of each flow in the table.
+const STRAIGHT: u8 = 0;
+
+const SKIP: u8 = 1;
+
+const JUMP: u8 = 2;
+
+const TEST: u8 = 3;
+
+const TEST_SET: u8 = 4;
+
+const LOOP_ENTRY: u8 = 5;
+
+const NUMERIC_LOOP: u8 = 6;
+
+const GENERIC_LOOP: u8 = 7;
+
+const EXIT: u8 = 8;
+
+// The flows by number.
+const FLOW_COUNT: usize = 9;
+
+const FLOWS: [Flow; FLOW_COUNT] = [
+    Flow::Straight,
+    Flow::Skip,
+    Flow::Jump,
+    Flow::Test,
+    Flow::TestSet,
+    Flow::LoopEntry,
+    Flow::NumericLoop,
+    Flow::GenericLoop,
+    Flow::Exit,
+];
+
+// The flow of a number; a number above the last goes straight on.
+fn flow_of(number: u8) -> Flow
+    ensures { λ r. ⌜ r ≡ flowNumbered number ⌝ }
+{
+    let i = number as usize;
+    if i < FLOW_COUNT {
+        return FLOWS[i];
+    }
+    Flow::Straight
+}
+
+// A row of the table in numbers: the kinds of A, B and C, and the flow.
+struct Entry(u8, u8, u8, u8);
 
 // How many opcodes there are.
 pub const OPCODES: usize = 38;
 
 // The table of the opcodes 0 to 37, in the order of lopcodes.h.
-const ROWS: [Row; OPCODES] = [
-    // MOVE
-    Row {
-        a: REGISTER,
-        b: REGISTER,
-        c: UNUSED,
-        flow: STRAIGHT,
-    },
-    // LOADK
-    Row {
-        a: REGISTER,
-        b: CONSTANT,
-        c: UNUSED,
-        flow: STRAIGHT,
-    },
-    // LOADBOOL
-    Row {
-        a: REGISTER,
-        b: FLAG,
-        c: FLAG,
-        flow: SKIP,
-    },
-    // LOADNIL
-    Row {
-        a: REGISTER,
-        b: LAST_FROM_A,
-        c: UNUSED,
-        flow: STRAIGHT,
-    },
-    // GETUPVAL
-    Row {
-        a: REGISTER,
-        b: UPVALUE,
-        c: UNUSED,
-        flow: STRAIGHT,
-    },
-    // GETGLOBAL
-    Row {
-        a: REGISTER,
-        b: GLOBAL,
-        c: UNUSED,
-        flow: STRAIGHT,
-    },
-    // GETTABLE
-    Row {
-        a: REGISTER,
-        b: REGISTER,
-        c: EITHER,
-        flow: STRAIGHT,
-    },
-    // SETGLOBAL
-    Row {
-        a: REGISTER,
-        b: GLOBAL,
-        c: UNUSED,
-        flow: STRAIGHT,
-    },
-    // SETUPVAL
-    Row {
-        a: REGISTER,
-        b: UPVALUE,
-        c: UNUSED,
-        flow: STRAIGHT,
-    },
-    // SETTABLE
-    Row {
-        a: REGISTER,
-        b: EITHER,
-        c: EITHER,
-        flow: STRAIGHT,
-    },
-    // NEWTABLE
-    Row {
-        a: REGISTER,
-        b: UNUSED,
-        c: UNUSED,
-        flow: STRAIGHT,
-    },
-    // SELF
-    Row {
-        a: PAIR,
-        b: REGISTER,
-        c: EITHER,
-        flow: STRAIGHT,
-    },
-    // ADD
-    Row {
-        a: REGISTER,
-        b: EITHER,
-        c: EITHER,
-        flow: STRAIGHT,
-    },
-    // SUB
-    Row {
-        a: REGISTER,
-        b: EITHER,
-        c: EITHER,
-        flow: STRAIGHT,
-    },
-    // MUL
-    Row {
-        a: REGISTER,
-        b: EITHER,
-        c: EITHER,
-        flow: STRAIGHT,
-    },
-    // DIV
-    Row {
-        a: REGISTER,
-        b: EITHER,
-        c: EITHER,
-        flow: STRAIGHT,
-    },
-    // MOD
-    Row {
-        a: REGISTER,
-        b: EITHER,
-        c: EITHER,
-        flow: STRAIGHT,
-    },
-    // POW
-    Row {
-        a: REGISTER,
-        b: EITHER,
-        c: EITHER,
-        flow: STRAIGHT,
-    },
-    // UNM
-    Row {
-        a: REGISTER,
-        b: REGISTER,
-        c: UNUSED,
-        flow: STRAIGHT,
-    },
-    // NOT
-    Row {
-        a: REGISTER,
-        b: REGISTER,
-        c: UNUSED,
-        flow: STRAIGHT,
-    },
-    // LEN
-    Row {
-        a: REGISTER,
-        b: REGISTER,
-        c: UNUSED,
-        flow: STRAIGHT,
-    },
-    // CONCAT
-    Row {
-        a: REGISTER,
-        b: REGISTER,
-        c: LAST_FROM_B,
-        flow: STRAIGHT,
-    },
-    // JMP
-    Row {
-        a: UNUSED,
-        b: OFFSET,
-        c: UNUSED,
-        flow: JUMP,
-    },
-    // EQ
-    Row {
-        a: FLAG,
-        b: EITHER,
-        c: EITHER,
-        flow: TEST,
-    },
-    // LT
-    Row {
-        a: FLAG,
-        b: EITHER,
-        c: EITHER,
-        flow: TEST,
-    },
-    // LE
-    Row {
-        a: FLAG,
-        b: EITHER,
-        c: EITHER,
-        flow: TEST,
-    },
-    // TEST
-    Row {
-        a: REGISTER,
-        b: UNUSED,
-        c: FLAG,
-        flow: TEST,
-    },
-    // TESTSET
-    Row {
-        a: REGISTER,
-        b: REGISTER,
-        c: FLAG,
-        flow: TEST_SET,
-    },
-    // CALL
-    Row {
-        a: REGISTER,
-        b: ARGUMENTS,
-        c: VALUES,
-        flow: STRAIGHT,
-    },
-    // TAILCALL
-    Row {
-        a: REGISTER,
-        b: ARGUMENTS,
-        c: UNUSED,
-        flow: STRAIGHT,
-    },
-    // RETURN
-    Row {
-        a: REGISTER,
-        b: VALUES,
-        c: UNUSED,
-        flow: EXIT,
-    },
-    // FORLOOP
-    Row {
-        a: QUARTET,
-        b: OFFSET,
-        c: UNUSED,
-        flow: NUMERIC_LOOP,
-    },
-    // FORPREP
-    Row {
-        a: QUARTET,
-        b: OFFSET,
-        c: UNUSED,
-        flow: LOOP_ENTRY,
-    },
-    // TFORLOOP
-    Row {
-        a: REGISTER,
-        b: UNUSED,
-        c: VARIABLES,
-        flow: GENERIC_LOOP,
-    },
-    // SETLIST
-    Row {
-        a: REGISTER,
-        b: ELEMENTS,
-        c: BLOCK_NUMBER,
-        flow: STRAIGHT,
-    },
-    // CLOSE
-    Row {
-        a: REGISTER,
-        b: UNUSED,
-        c: UNUSED,
-        flow: STRAIGHT,
-    },
-    // CLOSURE
-    Row {
-        a: REGISTER,
-        b: NESTED,
-        c: UNUSED,
-        flow: STRAIGHT,
-    },
-    // VARARG
-    Row {
-        a: REGISTER,
-        b: VARARGS,
-        c: UNUSED,
-        flow: STRAIGHT,
-    },
+const ROWS: [Entry; OPCODES] = [
+    Entry(REGISTER, REGISTER, UNUSED, STRAIGHT), // MOVE
+    Entry(REGISTER, CONSTANT, UNUSED, STRAIGHT), // LOADK
+    Entry(REGISTER, FLAG, FLAG, SKIP), // LOADBOOL
+    Entry(REGISTER, LAST_FROM_A, UNUSED, STRAIGHT), // LOADNIL
+    Entry(REGISTER, UPVALUE, UNUSED, STRAIGHT), // GETUPVAL
+    Entry(REGISTER, GLOBAL, UNUSED, STRAIGHT), // GETGLOBAL
+    Entry(REGISTER, REGISTER, EITHER, STRAIGHT), // GETTABLE
+    Entry(REGISTER, GLOBAL, UNUSED, STRAIGHT), // SETGLOBAL
+    Entry(REGISTER, UPVALUE, UNUSED, STRAIGHT), // SETUPVAL
+    Entry(REGISTER, EITHER, EITHER, STRAIGHT), // SETTABLE
+    Entry(REGISTER, UNUSED, UNUSED, STRAIGHT), // NEWTABLE
+    Entry(PAIR, REGISTER, EITHER, STRAIGHT), // SELF
+    Entry(REGISTER, EITHER, EITHER, STRAIGHT), // ADD
+    Entry(REGISTER, EITHER, EITHER, STRAIGHT), // SUB
+    Entry(REGISTER, EITHER, EITHER, STRAIGHT), // MUL
+    Entry(REGISTER, EITHER, EITHER, STRAIGHT), // DIV
+    Entry(REGISTER, EITHER, EITHER, STRAIGHT), // MOD
+    Entry(REGISTER, EITHER, EITHER, STRAIGHT), // POW
+    Entry(REGISTER, REGISTER, UNUSED, STRAIGHT), // UNM
+    Entry(REGISTER, REGISTER, UNUSED, STRAIGHT), // NOT
+    Entry(REGISTER, REGISTER, UNUSED, STRAIGHT), // LEN
+    Entry(REGISTER, REGISTER, LAST_FROM_B, STRAIGHT), // CONCAT
+    Entry(UNUSED, OFFSET, UNUSED, JUMP), // JMP
+    Entry(FLAG, EITHER, EITHER, TEST), // EQ
+    Entry(FLAG, EITHER, EITHER, TEST), // LT
+    Entry(FLAG, EITHER, EITHER, TEST), // LE
+    Entry(REGISTER, UNUSED, FLAG, TEST), // TEST
+    Entry(REGISTER, REGISTER, FLAG, TEST_SET), // TESTSET
+    Entry(REGISTER, ARGUMENTS, VALUES, STRAIGHT), // CALL
+    Entry(REGISTER, ARGUMENTS, UNUSED, STRAIGHT), // TAILCALL
+    Entry(REGISTER, VALUES, UNUSED, EXIT), // RETURN
+    Entry(QUARTET, OFFSET, UNUSED, NUMERIC_LOOP), // FORLOOP
+    Entry(QUARTET, OFFSET, UNUSED, LOOP_ENTRY), // FORPREP
+    Entry(REGISTER, UNUSED, VARIABLES, GENERIC_LOOP), // TFORLOOP
+    Entry(REGISTER, ELEMENTS, BLOCK_NUMBER, STRAIGHT), // SETLIST
+    Entry(REGISTER, UNUSED, UNUSED, STRAIGHT), // CLOSE
+    Entry(REGISTER, NESTED, UNUSED, STRAIGHT), // CLOSURE
+    Entry(REGISTER, VARARGS, UNUSED, STRAIGHT), // VARARG
 ];
 
-// The row of an opcode. An opcode above 37 uses no operand and goes straight on.
-pub fn row_of(opcode: u8) -> Row
-    ensures { λ r. ⌜ r ≡ rowNumbers opcode ⌝ }
+// The row of an opcode in numbers. An opcode above 37 uses no operand and goes straight on.
+fn entry_of(opcode: u8) -> Entry
+    ensures { λ r. ⌜ r ≡ inNumbers (rowOf opcode) ⌝ }
 {
-    let n = opcode as usize;
-    if n < OPCODES {
-        return ROWS[n];
+    let i = opcode as usize;
+    if i < OPCODES {
+        return ROWS[i];
     }
+    Entry(UNUSED, UNUSED, UNUSED, STRAIGHT)
+}
+
+// What the table says of an opcode: the kinds of its operands, and its flow. The kind of Bx or sBx stands under b.
+pub struct Row {
+    pub a: Kind,
+    pub b: Kind,
+    pub c: Kind,
+    pub flow: Flow,
+}
+
+// The row of an opcode.
+pub fn row_of(opcode: u8) -> Row
+    ensures { λ r. ⌜ Means (rowOf opcode) r ⌝ }
+{
+    let e = entry_of(opcode);
     Row {
-        a: UNUSED,
-        b: UNUSED,
-        c: UNUSED,
-        flow: STRAIGHT,
+        a: kind_of(e.0),
+        b: kind_of(e.1),
+        c: kind_of(e.2),
+        flow: flow_of(e.3),
     }
 }
 
@@ -478,7 +385,7 @@ pub struct Instruction {
 
 // The instruction of a word.
 pub fn decode(word: u32) -> Instruction
-    ensures { λ r. ⌜ r ≡ instructionOf word ⌝ }
+    ensures { λ r. ⌜ Decodes word r ⌝ }
 {
     let opcode = opcode_of(word);
     let row = row_of(opcode);

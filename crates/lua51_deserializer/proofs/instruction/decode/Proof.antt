@@ -22,7 +22,17 @@ bx-of-requires : tie.Need-bx-of-requires
 bx-of-requires c κs = search needs
 
 returns : tie.Need-returns
-returns c = cc
+returns c =
+    let d = c .before .before .before in
+    let opcode = d .before .before .opcode-of .ensures in
+    record {
+      opcode = opcode;
+      a = d .a-of .ensures;
+      b = c .before .before .b-of .ensures;
+      c = c .before .c-of .ensures;
+      bx = c .bx-of .ensures;
+      row = rw opcode at (d .before .row-of .ensures);
+    }
 
 pub decode-spec : {M : Type 1} → statement M
 decode-spec =

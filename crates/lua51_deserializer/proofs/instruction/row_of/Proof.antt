@@ -1,25 +1,44 @@
--- `instruction::row_of`: the table is the definition's, compared once with every row in numbers. Assumes nothing.
-use mathlib.Core.Path.{sym, ap}
-use lib.ListN.{List·getD-map, List·getD-eq-default}
+-- `instruction::row_of`: each number of the entry is that of its kind or flow. Assumes nothing.
+use Rattle.lua51_deserializer.specs.Word.{rowOf}
+use Rattle.lua51_deserializer.proofs.Numbered.{kind-back, flow-back}
 use borrow.Author.Needs.{needs}
-use Rattle.lua51_deserializer.specs.Word.{rows, rowOf, unused, straight, UNKNOWN}
-use Rattle.lua51_deserializer.specs.Instruction.{inNumbers}
 use Rattle.lua51_deserializer.proofs.instruction.row_of.Statement.{statement}
 use Rattle.lua51_deserializer.proofs.instruction.row_of.Tie as tie
 
-mul-result : tie.Need-mul-result
-mul-result c = search needs
+entry-of-requires : tie.Need-entry-of-requires
+entry-of-requires c κs = search needs
 
-array-copy-out-result : tie.Need-array-copy-out-result
-array-copy-out-result c = search needs
+kind-of-requires : tie.Need-kind-of-requires
+kind-of-requires c κs = search needs
+
+kind-of-requires-2 : tie.Need-kind-of-requires-2
+kind-of-requires-2 c κs = search needs
+
+kind-of-requires-3 : tie.Need-kind-of-requires-3
+kind-of-requires-3 c κs = search needs
+
+flow-of-requires : tie.Need-flow-of-requires
+flow-of-requires c κs = search needs
 
 returns : tie.Need-returns
-unfolding rowOf
-returns c = List·getD-map inNumbers rows (c .before .before .args .opcode) (record { op = UNKNOWN; a = unused; b = unused; c = unused; flow = straight })
-
-returns-2 : tie.Need-returns-2
-unfolding rowOf
-returns-2 c = ap inNumbers (sym (List·getD-eq-default rows _ (c .if1 .left)))
+returns c =
+    let d = c .before .before .before in
+    let e = d .before .entry-of .ensures in
+    let row = rowOf (d .before .before .args .opcode) in
+    record {
+      a = rw (d .kind-of .ensures, e) (kind-back (row .a));
+      b = rw (c .before .before .kind-of2 .ensures, e) (kind-back (row .b));
+      c = rw (c .before .kind-of3 .ensures, e) (kind-back (row .c));
+      flow = rw (c .flow-of .ensures, e) (flow-back (row .flow));
+    }
 
 pub row-of-spec : {M : Type 1} → statement M
-row-of-spec = tie.close (tie.spec mul-result array-copy-out-result returns returns-2)
+row-of-spec =
+    tie.close
+    (tie.spec
+    entry-of-requires
+    kind-of-requires
+    kind-of-requires-2
+    kind-of-requires-3
+    flow-of-requires
+    returns)
