@@ -1,0 +1,160 @@
+// A constant of a function, read from its bytes, and a number's bits as they are printed.
+ghost use mathlib.Core.Path.{_≡_};
+ghost use Prim.Native.Nat.{_+_, _-_, _<_};
+ghost use Rattle.lua51_deserializer.specs.Word.{bits};
+ghost use Rattle.lua51_deserializer.specs.Constant.{within, patternAt, numberOf, patternOf, piecesOf, Reads};
+use crate::bits::field;
+use crate::bytes::byte_at;
+use crate::bytes::int_at;
+
+// The kinds of constants.
+const KIND_NIL: u8 = 0;
+
+const KIND_BOOLEAN: u8 = 1;
+
+const KIND_NUMBER: u8 = 3;
+
+// The bits of infinity, the sign left out: a NaN's are above them.
+const INFINITY: u64 = 0x7FF0000000000000;
+// The sign's bit.
+const SIGN: u64 = 1 << 63;
+// The bits of the NaN that arithmetic gives.
+const STANDARD_NAN: u64 = 0x7FF8000000000000;
+
+// A constant. A NaN's bits stand beside the other numbers, since a float does not keep them. A string is a place in the
+// chunk and a length, without its last byte, the 0.
+pub enum Constant {
+    Nil,
+    Boolean(bool),
+    Number(f64),
+    NotANumber(u64),
+    String { at: usize, len: usize },
+}
+
+// The place k bytes behind an offset, or the end of the bytes where that comes first.
+fn place_after(s: &[u8], at: usize, k: usize) -> usize
+    ensures { λ r. ⌜ r ≡ within (now (s .entry)) (at + k) ⌝ }
+{
+    if s.len() <= at {
+        return s.len();
+    }
+    if s.len() - at <= k {
+        return s.len();
+    }
+    at + k
+}
+
+// A 4-byte number as a wider one.
+fn wide(x: u32) -> u64
+    ensures { λ r. ⌜ (r ≡ x) × (r < 4294967296) ⌝ }
+{
+    x as u64
+}
+
+// The 64 bits at an offset, the lowest byte first.
+pub fn pattern_at(s: &[u8], at: usize) -> u64
+    ensures { λ r. ⌜ r ≡ patternAt (now (s .entry)) at ⌝ }
+{
+    let low = wide(int_at(s, at));
+    let high = wide(int_at(s, place_after(s, at, 4)));
+    low + 4294967296 * high
+}
+
+// The number that 64 bits stand for.
+pub fn number(pattern: u64) -> Constant
+    ensures { λ r. ⌜ r ≡ numberOf pattern ⌝ }
+{
+    if INFINITY < pattern % SIGN {
+        return Constant::NotANumber(pattern);
+    }
+    Constant::Number(f64::from_bits(pattern))
+}
+
+// The length of a string without its last byte, by its size.
+fn text_length(size: u32) -> usize
+    ensures { λ r. ⌜ r ≡ size - 1 ⌝ }
+{
+    if size == 0 {
+        return 0;
+    }
+    (size - 1) as usize
+}
+
+// The constant whose kind stands at an offset.
+pub fn constant_at(s: &[u8], at: usize) -> Constant
+    ensures { λ r. ⌜ Reads (now (s .entry)) at r ⌝ }
+{
+    let kind = byte_at(s, at);
+    if kind == KIND_NIL {
+        return Constant::Nil;
+    }
+    let content = place_after(s, at, 1);
+    if kind == KIND_BOOLEAN {
+        return Constant::Boolean(byte_at(s, content) != 0);
+    }
+    if kind == KIND_NUMBER {
+        return number(pattern_at(s, content));
+    }
+    Constant::String {
+        at: place_after(s, at, 5),
+        len: text_length(int_at(s, content)),
+    }
+}
+
+// The 64 bits of a number; 0 of the other constants.
+pub fn pattern_of(c: Constant) -> u64
+    ensures { λ r. ⌜ r ≡ patternOf c ⌝ }
+{
+    match c {
+        Constant::Number(x) => {
+            if x == x {
+                f64::to_bits(x)
+            } else {
+                STANDARD_NAN
+            }
+        }
+        Constant::NotANumber(pattern) => pattern,
+        Constant::Nil => 0,
+        Constant::Boolean(_) => 0,
+        Constant::String { at: _, len: _ } => 0,
+    }
+}
+
+// A number's 64 bits in pieces of 16, as they are printed.
+pub struct Pieces {
+    pub highest: u16,
+    pub higher: u16,
+    pub lower: u16,
+    pub lowest: u16,
+}
+
+// How many bits stand below each piece, and how many it has.
+const HIGHEST_FROM: u64 = 48;
+
+const HIGHER_FROM: u64 = 32;
+
+const LOWER_FROM: u64 = 16;
+
+const LOWEST_FROM: u64 = 0;
+
+const PIECE_WIDTH: u64 = 16;
+
+// The 16 bits of a pattern above its lowest `from` bits.
+fn piece(pattern: u64, from: u64) -> u16
+    requires { ⌜ from < 64 ⌝ }
+    ensures { λ r. ⌜ r ≡ bits from 16 pattern ⌝ }
+{
+    field(pattern, from, PIECE_WIDTH) as u16
+}
+
+// The four pieces of 64 bits.
+pub fn pieces_of(pattern: u64) -> Pieces
+    ensures { λ r. ⌜ r ≡ piecesOf pattern ⌝ }
+{
+    Pieces {
+        highest: piece(pattern, HIGHEST_FROM),
+        higher: piece(pattern, HIGHER_FROM),
+        lower: piece(pattern, LOWER_FROM),
+        lowest: piece(pattern, LOWEST_FROM),
+    }
+}
