@@ -10,22 +10,34 @@ use Rattle.lua51_deserializer.proofs.Tests.{and-left, and-right}
 use Rattle.lines.specs.Line.{digits, decimal, column, line}
 use Rattle.lua51_deserializer.specs.Range.{over, sum, times}
 use Rattle.lua51_deserializer.specs.Word.{opOf, row, rowOf}
-use Rattle.lua51_deserializer.specs.Chunk.{again, intAt, field, limited, counted, body, string, present, constantOf, constant, head, code, constants, lines, locals, names, many, begin, nest, finish, function, exactly, signature, ends, walk, kindOf, ints, valueAt, valuesAt, nestedIn, constantsAt, protoAt}
+use Rattle.lua51_deserializer.specs.Chunk.{again, intAt, field, limited, counted, body, string, present, constantOf}
+use Rattle.lua51_deserializer.specs.Chunk.{constant, head, code, constants, lines, locals, names, many, begin, nest}
+use Rattle.lua51_deserializer.specs.Chunk.{finish, function, exactly, signature, ends, walk, kindOf, ints, valueAt}
+use Rattle.lua51_deserializer.specs.Chunk.{valuesAt, nestedIn, constantsAt, protoAt}
 use Rattle.ast.specs.Statement.{count, expr, exprs, tailNumbers, run, registers}
-use Rattle.cfg.specs.Graph.{claims, leader, blockOf, leaderFrom, past, leaving, exits, entering, isLoop, thenOf, diverted, betweenOf}
-use Rattle.lua51_lifter.specs.Check.{firstRefusal, headFault, lastFault, operand, operandFault, landsInside, tests, wordVerdict, opener, user, slot, matches, unused-results, missing-results, allCaptures, reaches, reached, useVerdict, check}
-use Rattle.lua51_lifter.specs.Lift.{rk, condition, concatenated, captures, taken, opened, statementsBy, pending, statements, onThen}
+use Rattle.cfg.specs.Graph.{claims, leader, blockOf, leaderFrom, past, leaving, exits, entering, isLoop, thenOf}
+use Rattle.cfg.specs.Graph.{diverted, betweenOf}
+use Rattle.lua51_lifter.specs.Check.{firstRefusal, headFault, lastFault, operand, operandFault, landsInside, tests}
+use Rattle.lua51_lifter.specs.Check.{wordVerdict, opener, user, slot, matches, unused-results, missing-results}
+use Rattle.lua51_lifter.specs.Check.{allCaptures, reaches, reached, useVerdict, check}
+use Rattle.lua51_lifter.specs.Lift.{rk, condition, concatenated, captures, taken, opened, statementsBy, pending}
+use Rattle.lua51_lifter.specs.Lift.{statements, onThen}
 use Rattle.lua51_lifter.specs.Blocks.{front, leads, codeBlock, entryBlock, betweenBlock, graph}
 use Rattle.lua51_lifter.specs.Listing.{value, constantLines, statementLine, edgeLine, blockLine, blockLines, listing}
 use Rattle.reading.specs.Reading.{judgeFrom, judgeRead, judge, listingOf}
 use Rattle.reading.specs.Program.{listings, piecesFor, pieces}
 use Rattle.follow.specs.Account.{onward, account}
-use Rattle.follow.specs.GraphFollower.{fold, folds, marked, marks, opensOf, opensIn, inside, outside, insides, outsides, tailOpens, tailMarked, actions, bare, endingOf, ending, answered, nextBlock, graphStep, byGraph}
-use Rattle.follow.specs.WordFollower.{named, RK, jumped, upward, slots, nils, strung, captured, takes, testing, doing, wordStepFrom, wordStep, byWords}
+use Rattle.follow.specs.GraphFollower.{fold, folds, marked, marks, opensOf, opensIn, inside, outside, insides, outsides}
+use Rattle.follow.specs.GraphFollower.{tailOpens, tailMarked, actions, bare, endingOf, ending, answered, nextBlock}
+use Rattle.follow.specs.GraphFollower.{graphStep, byGraph}
+use Rattle.follow.specs.WordFollower.{named, RK, jumped, upward, slots, nils, strung, captured, takes, testing, doing}
+use Rattle.follow.specs.WordFollower.{wordStepFrom, wordStep, byWords}
 use Rattle.lines.specs.Text.{bytes}
 use Rattle.cases.specs.Make.{int, functionBytes, chunk}
 use Rattle.cases.specs.Cases.{answerNumbers, eventNumbers, functionOf, blockAt, told, Case, AllHold}
-use Rattle.cases.specs.Table.{return-alone, return-listing, equal-jump, equal-back, numeric-for, loop-onward, loop-first, three-deep, proved-cases, jump-over-listing, slip-cases, listing-0, listing-1, listing-2, nested-cases, cases}
+use Rattle.cases.specs.Table.{return-alone, return-listing, equal-jump, equal-back, numeric-for, loop-onward, past-the-jump}
+use Rattle.cases.specs.Table.{loop-first, three-deep, proved-cases, jump-over-listing, slip-cases, listing-0}
+use Rattle.cases.specs.Table.{listing-1, listing-2, nested-cases, cases}
 
 -- ------------------------------------------------------------ the test
 
@@ -68,6 +80,6 @@ unfolding flatMap flatten digits decimal column line over sum times opOf row row
     tailMarked actions bare endingOf ending answered nextBlock graphStep byGraph named RK jumped upward slots nils
     strung captured takes testing doing wordStepFrom wordStep byWords int functionBytes chunk bytes answerNumbers
     eventNumbers functionOf blockAt told return-alone return-listing equal-jump equal-back numeric-for
-    loop-onward loop-first three-deep proved-cases jump-over-listing slip-cases listing-0 listing-1 listing-2
+    loop-onward loop-first three-deep proved-cases jump-over-listing past-the-jump slip-cases listing-0 listing-1 listing-2
     nested-cases cases
 all-hold = hold cases refl

@@ -2,7 +2,8 @@
 use mathlib.Core.Bool.{true}
 use mathlib.Core.List.{List, [], _∷_, _++_}
 use Prim.Native.Nat.{ℕ}
-use Rattle.lua51_deserializer.specs.Word.{MOVE, LOADK, LOADBOOL, GETUPVAL, JMP, EQ, CALL, RETURN, FORLOOP, FORPREP, SETLIST, CLOSURE}
+use Rattle.lua51_deserializer.specs.Word.{MOVE, LOADK, LOADBOOL, GETUPVAL, JMP, EQ, CALL, RETURN, FORLOOP, FORPREP}
+use Rattle.lua51_deserializer.specs.Word.{SETLIST, CLOSURE}
 use Rattle.lua51_deserializer.specs.Chunk.{header}
 use Rattle.lines.specs.Text.{bytes}
 use Rattle.lua51_deserializer.specs.Encode.{abc, abx, jumps}
@@ -109,6 +110,10 @@ jump-over-listing =
     ++ bytes "S      1      1      1      1      0      3\n"
     ++ bytes "E      0      0\n"
 
+-- what both write of them with yes: register 0 gets nil; is register 0 equal to register 0? yes; return; end
+unfoldable pub past-the-jump : List ℕ
+past-the-jump = 1 ∷ 1 ∷ 1 ∷ 1 ∷ 1 ∷ 0 ∷ 3 ∷ 3 ∷ 9 ∷ 8 ∷ 1 ∷ 0 ∷ 1 ∷ 0 ∷ 5 ∷ 1 ∷ 1 ∷ 4 ∷ 0 ∷ 7 ∷ []
+
 unfoldable pub slip-cases : List Case
 slip-cases =
     -- 'leaving out the empty block at n': it stands between the last range and the entry
@@ -117,10 +122,10 @@ slip-cases =
     case loop-first (edges 0 0) (1 ∷ 4 ∷ 2 ∷ 1 ∷ []) ∷
     case loop-first (statements 0 4) (1 ∷ 1 ∷ 1 ∷ 1 ∷ 3 ∷ 1 ∷ 0 ∷ []) ∷
     -- 'taking the Then side for a yes when Not is shown': a yes leads past the jump
-    case equal-jump (by-graph 0 (true ∷ [])) (1 ∷ 1 ∷ 1 ∷ 1 ∷ 1 ∷ 0 ∷ 3 ∷ 3 ∷ 9 ∷ 8 ∷ 1 ∷ 0 ∷ 1 ∷ 0 ∷ 5 ∷ 1 ∷ 1 ∷ 4 ∷ 0 ∷ 7 ∷ []) ∷
-    case equal-jump (by-words 0 (true ∷ [])) (1 ∷ 1 ∷ 1 ∷ 1 ∷ 1 ∷ 0 ∷ 3 ∷ 3 ∷ 9 ∷ 8 ∷ 1 ∷ 0 ∷ 1 ∷ 0 ∷ 5 ∷ 1 ∷ 1 ∷ 4 ∷ 0 ∷ 7 ∷ []) ∷
-    case equal-back (by-graph 0 (true ∷ [])) (1 ∷ 1 ∷ 1 ∷ 1 ∷ 1 ∷ 0 ∷ 3 ∷ 3 ∷ 9 ∷ 8 ∷ 1 ∷ 0 ∷ 1 ∷ 0 ∷ 5 ∷ 1 ∷ 1 ∷ 4 ∷ 0 ∷ 7 ∷ []) ∷
-    case equal-back (by-words 0 (true ∷ [])) (1 ∷ 1 ∷ 1 ∷ 1 ∷ 1 ∷ 0 ∷ 3 ∷ 3 ∷ 9 ∷ 8 ∷ 1 ∷ 0 ∷ 1 ∷ 0 ∷ 5 ∷ 1 ∷ 1 ∷ 4 ∷ 0 ∷ 7 ∷ []) ∷
+    case equal-jump (by-graph 0 (true ∷ [])) past-the-jump ∷
+    case equal-jump (by-words 0 (true ∷ [])) past-the-jump ∷
+    case equal-back (by-graph 0 (true ∷ [])) past-the-jump ∷
+    case equal-back (by-words 0 (true ∷ [])) past-the-jump ∷
     -- 'numbering blocks as found': a jump over a word finds its target first
     case (chunk 1 (jumps JMP 0 0 2 ∷ abc MOVE 0 0 0 ∷ return ∷ [])) (listed 0) jump-over-listing ∷ []
 

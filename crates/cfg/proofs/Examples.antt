@@ -4,11 +4,13 @@ use Prim.Native.Nat.{ℕ, _+_}
 use mathlib.Core.List.{List, [], _∷_, flatMap}
 use mathlib.Core.Bool.{false, cond}
 use mathlib.Core.Path.{_≡_, refl}
-use Rattle.lua51_deserializer.specs.Word.{MOVE, LOADBOOL, JMP, TEST, TESTSET, RETURN, FORLOOP, FORPREP, TFORLOOP, opOf, row, rowOf}
+use Rattle.lua51_deserializer.specs.Word.{MOVE, LOADBOOL, JMP, TEST, TESTSET, RETURN, FORLOOP, FORPREP, TFORLOOP, opOf}
+use Rattle.lua51_deserializer.specs.Word.{row, rowOf}
 use Rattle.lua51_deserializer.specs.Proto.{Proto, flowAt}
 use Rattle.lua51_deserializer.specs.Range.{sum, over, times, only}
 use Rattle.lua51_deserializer.specs.Encode.{abc, jumps}
-use Rattle.cfg.specs.Graph.{claims, leader, blockOf, leaving, exits, entering, isLoop, thenOf, diverted, betweenOf}
+use Rattle.cfg.specs.Graph.{claims, leader, blockOf, leaving, exits, entering, isLoop, thenOf, diverted}
+use Rattle.cfg.specs.Graph.{betweenOf}
 
 sample-words : List ℕ
 sample-words =

@@ -1,8 +1,10 @@
 -- Demand 3: the two ways to follow an accepted function agree.
 use mathlib.Core.Bool.{Bool, true, not, cond, _||_, _&&_}
-use Rattle.lua51_deserializer.specs.Word.{straight, skip, jump, test, test-set, loop-entry, numeric-loop, generic-loop, exit, MOVE, GETUPVAL, TESTSET, FORLOOP, TFORLOOP, Flow, numberOf}
+use Rattle.lua51_deserializer.specs.Word.{straight, skip, jump, test, test-set, loop-entry, numeric-loop, generic-loop}
+use Rattle.lua51_deserializer.specs.Word.{exit, MOVE, GETUPVAL, TESTSET, FORLOOP, TFORLOOP, Flow, numberOf}
 use Rattle.cfg.proofs.Leaders.{Onward, straight-on, skips-none, goes-onward, Found, past-found}
-use Rattle.follow.proofs.Simulation.{Straight, done, on, Follows, first-in-second, second-in-first, first-unlost, arrives, more, together, second-unlost, more-le}
+use Rattle.follow.proofs.Simulation.{Straight, done, on, Follows, first-in-second, second-in-first, first-unlost}
+use Rattle.follow.proofs.Simulation.{arrives, more, together, second-unlost, more-le}
 use Prim.Native.Nat.{ℕ, _+_, _-_, _≤_, _<_}
 use native.Mathlib.Omega.{arith}
 use mathlib.Core.Path.{_≡_, refl, sym, ap, _∙_}
@@ -17,8 +19,11 @@ use Rattle.lua51_lifter.specs.Lift.{onThen, pending, statements, statementsBy}
 use Rattle.lua51_lifter.specs.Blocks.{front, codeBlock, graph, entryBlock, betweenBlock, leads}
 use Rattle.lua51_deserializer.specs.Range.{only, over, sum}
 use Rattle.follow.specs.GraphFollower.{endingOf, graphStep, byGraph, nextBlock, ending, no-block}
-use Rattle.follow.proofs.Statements.{Quiet, quiet-cond, quiet-append, acts, quiet-over, acts-append, quiet-passes, Plain, quiet-ending, plain-quiet, plain-acts}
-use Rattle.follow.proofs.Ends.{Alongside, at-code, ended-test, Ended, at-between, bare-arrival, ended-set, then-lands, then-loop, ended-each, onward-edge, then-each, ended-jump, onward-arrival, ended-loop, ended-entry, ended-skip, ended-exit}
+use Rattle.follow.proofs.Statements.{Quiet, quiet-cond, quiet-append, acts, quiet-over, acts-append}
+use Rattle.follow.proofs.Statements.{quiet-passes, Plain, quiet-ending, plain-quiet, plain-acts}
+use Rattle.follow.proofs.Ends.{Alongside, at-code, ended-test, Ended, at-between, bare-arrival, ended-set}
+use Rattle.follow.proofs.Ends.{then-lands, then-loop, ended-each, onward-edge, then-each, ended-jump}
+use Rattle.follow.proofs.Ends.{onward-arrival, ended-loop, ended-entry, ended-skip, ended-exit}
 use Rattle.ast.specs.Statement.{Stmt, set-register, nil}
 use Rattle.cfg.specs.Graph.{leader, diverted, past, blockOf, entryOf, betweenOf, entering, thenOf, isLoop, leaving}
 use Rattle.follow.proofs.Run.{Ran, run, leader-free, free}
@@ -125,7 +130,9 @@ module _ (p : Proto) where
           let m : t + (last - t) ≡ last = omega (arith, range .from) in
           rw n (over-split (statements p) t (last - t) 1 ∙ rw m (ap {B = List Stmt} (λ (x : List Stmt). over (statements p) t (last - t) ++ x) (append-nil (statements p last))))
 
-      last-acts : (f : Flow) (kept : ℕ) → flowAt p last ≡ f → pending p last ≡ 0 → (user p last ≡ true → kept ≡ A p (last - 1)) → acts (statements p last) ≡ carried p last ++ wordStep p (at last kept) .writes
+      last-acts : (f : Flow) (kept : ℕ) → flowAt p last ≡ f → pending p last ≡ 0
+          → (user p last ≡ true → kept ≡ A p (last - 1))
+          → acts (statements p last) ≡ carried p last ++ wordStep p (at last kept) .writes
       unfolding wordStep wordStepFrom statements
       last-acts f kept e z keeps =
           let none : carried p (last + 1) ≡ [] = rw last-next (carries-none (past p t) (range .leads)) in
@@ -135,7 +142,8 @@ module _ (p : Proto) where
       unfolding wordStep wordStepFrom
       last-step kept = rw (named-is p last last-inside)
 
-      out : (f : Flow) → flowAt p last ≡ f → pending p last ≡ 0 → ((kept : ℕ) → Ended p last kept f) → Ran p t k last (over (statements p) t (last - t)) → Follow
+      out : (f : Flow) → flowAt p last ≡ f → pending p last ≡ 0 → ((kept : ℕ) → Ended p last kept f)
+          → Ran p t k last (over (statements p) t (last - t)) → Follow
       out f e z ended r =
           let there-free : last + pending p last ≡ last = omega arith in
           let way : Straight (wordStep p) (r .steps) (at t k) (r .written) (at last (r .kept)) = rw (here-free, there-free) at (r .way) in
@@ -153,7 +161,8 @@ module _ (p : Proto) where
           here : statements p last ≡ statementsBy p last (opAt p last)
           here = unfold statements in rw z
 
-          written : acts (over (statements p) t (last - t)) ++ carried p last ≡ r .written → acts body ≡ r .written ++ wordStep p (at last (r .kept)) .writes
+          written : acts (over (statements p) t (last - t)) ++ carried p last ≡ r .written
+              → acts body ≡ r .written ++ wordStep p (at last (r .kept)) .writes
           written before = ap {B = List Action} acts body-split
               ∙ (acts-append (over (statements p) t (last - t)) (statements p last)
               ∙ (ap {B = List Action} (λ (x : List Action). acts (over (statements p) t (last - t)) ++ x) (last-acts f (r .kept) e z (r .keeps))
@@ -164,7 +173,9 @@ module _ (p : Proto) where
       to-last = run p ok (last - t) t last k (omega (arith, range .from)) (omega (arith, range .within)) keeps-here before-last
 
       -- no capture is other than straight
-      unbound : (f : Flow) → flowAt p last ≡ f → allBelow (λ o. not (opcodesOf f o) || not (eqb o (numberOf MOVE))) 64 ≡ true → allBelow (λ o. not (opcodesOf f o) || not (eqb o (numberOf GETUPVAL))) 64 ≡ true → pending p last ≡ 0
+      unbound : (f : Flow) → flowAt p last ≡ f
+          → allBelow (λ o. not (opcodesOf f o) || not (eqb o (numberOf MOVE))) 64 ≡ true
+          → allBelow (λ o. not (opcodesOf f o) || not (eqb o (numberOf GETUPVAL))) 64 ≡ true → pending p last ≡ 0
       unbound f e a b = free p ok last (omega (arith, last-inside)) (flow-not p last f MOVE e a) (flow-not p last f GETUPVAL e b)
 
       code-follows : (f : Flow) → flowAt p last ≡ f → Follow

@@ -11,7 +11,8 @@ use Rattle.follow.specs.Demand.{DemandThree}
 use Rattle.follow.proofs.Agreement.{agree}
 
 -- a judgement that comes through went past the first function and the others
-past-first : (s : List ℕ) (ps : List Place) (f k n : ℕ) → judgeFrom s ps f (suc k) ≡ given n → (v : Verdict) → check (protoAt s ps f) ≡ v → (check (protoAt s ps f) ≡ fine) × (judgeFrom s ps (f + 1) k ≡ given n)
+past-first : (s : List ℕ) (ps : List Place) (f k n : ℕ) → judgeFrom s ps f (suc k) ≡ given n → (v : Verdict)
+    → check (protoAt s ps f) ≡ v → (check (protoAt s ps f) ≡ fine) × (judgeFrom s ps (f + 1) k ≡ given n)
 unfolding judgeFrom
 past-first s ps f k n h fine e = (e, rw e at h)
 past-first s ps f k n h (wrong m q) e = let z : refusal m f q ≡ given n = rw e at h in absurd (never m f q n z)
@@ -19,7 +20,8 @@ past-first s ps f k n h (wrong m q) e = let z : refusal m f q ≡ given n = rw e
     never : (m f q n : ℕ) → refusal m f q ≡ given n → ⊥
     never m f q n z = let y : _≡_ {A = ℕ} 0 1 = cc in omega arith
 
-all-fine : (s : List ℕ) (ps : List Place) (f k n : ℕ) → judgeFrom s ps f k ≡ given n → (i : ℕ) → i < k → check (protoAt s ps (f + i)) ≡ fine
+all-fine : (s : List ℕ) (ps : List Place) (f k n : ℕ) → judgeFrom s ps f k ≡ given n → (i : ℕ) → i < k
+    → check (protoAt s ps (f + i)) ≡ fine
 all-fine s ps f zero n h i lt = absurd (omega arith)
 all-fine s ps f (suc k) n h zero lt =
     let e : f + 0 ≡ f = omega arith in

@@ -1,6 +1,8 @@
 -- The last word of a range: its block's edges and question are the word's own.
 use mathlib.Core.Bool.{true, false, not, cond, _&&_, _||_}
-use Rattle.lua51_deserializer.specs.Word.{straight, skip, jump, test, test-set, loop-entry, numeric-loop, generic-loop, exit, LOADBOOL, JMP, TESTSET, RETURN, FORLOOP, FORPREP, TFORLOOP, Flow, numberOf, Op, rowOf, row, opOf}
+use Rattle.lua51_deserializer.specs.Word.{straight, skip, jump, test, test-set, loop-entry, numeric-loop, generic-loop}
+use Rattle.lua51_deserializer.specs.Word.{exit, LOADBOOL, JMP, TESTSET, RETURN, FORLOOP, FORPREP, TFORLOOP, Flow}
+use Rattle.lua51_deserializer.specs.Word.{numberOf, Op, rowOf, row, opOf}
 use Rattle.ast.specs.Statement.{register}
 use Rattle.cfg.specs.Graph.{plain-edge, then-edge, else-edge}
 use Rattle.cfg.proofs.Leaders.{Onward, straight-on, skips-none, leader-claimed}
@@ -16,7 +18,8 @@ use Rattle.follow.specs.WordFollower.{At, at, testing, doing, owing}
 use Rattle.lua51_lifter.specs.Lift.{onThen, statementsBy, condition}
 use Rattle.cfg.specs.Graph.{thenOf, isLoop, leader, claims, blockOf, diverted, leaving, betweenOf}
 use Rattle.lua51_lifter.specs.Check.{check, fine, landsInside, reaches}
-use Rattle.follow.specs.GraphFollower.{nextBlock, actions, ending, insides, endingOf, outsides, inside, passes, outside, bare, fold, answered}
+use Rattle.follow.specs.GraphFollower.{nextBlock, actions, ending, insides, endingOf, outsides, inside, passes}
+use Rattle.follow.specs.GraphFollower.{outside, bare, fold, answered}
 use Rattle.cfg.proofs.Entering.{sent, loop-cases, undiverted}
 use Rattle.lua51_lifter.specs.Blocks.{leads, front}
 use Rattle.lua51_deserializer.specs.Range.{times, only}
@@ -41,20 +44,25 @@ module _ (p : Proto) where
   bare-arrival t k lt l h = rw h at (at-code t k lt l)
 
   -- the assignments on Then edges
-  then-set : (i : ℕ) → opcode p i ≡ numberOf TESTSET → acts (onThen p i) ≡ only (does (set-register (A p i) (register (B p i))))
+  then-set : (i : ℕ) → opcode p i ≡ numberOf TESTSET
+      → acts (onThen p i) ≡ only (does (set-register (A p i) (register (B p i))))
   unfolding onThen flatMap actions insides outsides inside outside fold
   then-set i e = rw e
 
-  pub then-loop : (i : ℕ) → opcode p i ≡ numberOf FORLOOP → acts (onThen p i) ≡ only (does (set-register (A p i + 3) (register (A p i))))
+  pub then-loop : (i : ℕ) → opcode p i ≡ numberOf FORLOOP
+      → acts (onThen p i) ≡ only (does (set-register (A p i + 3) (register (A p i))))
   unfolding onThen flatMap actions insides outsides inside outside fold
   then-loop i e = rw e
 
-  pub then-each : (i : ℕ) → opcode p i ≡ numberOf TFORLOOP → acts (onThen p i) ≡ only (does (set-register (A p i + 2) (register (A p i + 3))))
+  pub then-each : (i : ℕ) → opcode p i ≡ numberOf TFORLOOP
+      → acts (onThen p i) ≡ only (does (set-register (A p i + 2) (register (A p i + 3))))
   unfolding onThen flatMap actions insides outsides inside outside fold
   then-each i e = rw e
 
   -- a word of another flow is no loop
-  unlooped : (i : ℕ) (f : Flow) → flowAt p i ≡ f → allBelow (λ o. not (opcodesOf f o) || not (eqb o (numberOf FORLOOP) || eqb o (numberOf TFORLOOP))) 64 ≡ true → isLoop p i ≡ false
+  unlooped : (i : ℕ) (f : Flow) → flowAt p i ≡ f
+      → allBelow (λ o. not (opcodesOf f o) || not (eqb o (numberOf FORLOOP) || eqb o (numberOf TFORLOOP))) 64 ≡ true
+      → isLoop p i ≡ false
   unfolding isLoop
   unlooped i f e h = not-is _ (flow-test p i f (λ o. not (eqb o (numberOf FORLOOP) || eqb o (numberOf TFORLOOP))) e h)
 
@@ -74,7 +82,8 @@ module _ (p : Proto) where
   unfolding thenOf
   then-next i e = rw e
 
-  branch-alike : (i k : ℕ) (op : Op) (following : At) (x y : ℕ) → Alongside p x following → Alongside p y (at (i + 2) 0) → Test p i k op following
+  branch-alike : (i k : ℕ) (op : Op) (following : At) (x y : ℕ) → Alongside p x following → Alongside p y (at (i + 2) 0)
+      → Test p i k op following
       → Alike (Alongside p) (nextBlock (ending (statementsBy p i op)) (then-edge x ∷ else-edge y ∷ [])) (doing p i k op .next)
   unfolding nextBlock answered ending endingOf testing condition
   branch-alike i k op following x y r s t = either-way (eqb (t .flag) 0)
@@ -92,7 +101,9 @@ module _ (p : Proto) where
     claims-it t h = leader-claimed p i t lt h
 
     -- an edge that brings nothing: of no loop, or of one whose Then edge goes elsewhere or to the same word
-    edge-arrival : (t k : ℕ) → t < size p → leader p (i + 1) ≡ true → leader p t ≡ true → 1 ≤ sent p i t → (isLoop p i ≡ true → thenOf p i ≡ t → 2 ≤ sent p i t) → (0 < t → opcode p (t - 1) ≡ numberOf TESTSET → ⊥) → Alongside p (blockOf p t) (at t k)
+    edge-arrival : (t k : ℕ) → t < size p → leader p (i + 1) ≡ true → leader p t ≡ true → 1 ≤ sent p i t
+        → (isLoop p i ≡ true → thenOf p i ≡ t → 2 ≤ sent p i t) → (0 < t → opcode p (t - 1) ≡ numberOf TESTSET → ⊥)
+        → Alongside p (blockOf p t) (at t k)
     edge-arrival t k l h g e twice unset = bare-arrival t k l g (plain-front p i t lt h e twice unset)
 
     -- the words behind a test
@@ -106,7 +117,8 @@ module _ (p : Proto) where
     test-after f e h = claims-it (i + 2) (rw (e, h) (times-second (i + 2) (i + 1)))
 
     -- a jump's target
-    jump-lands : (f : Flow) → flowAt p i ≡ f → landsInside p i f ≡ (leb 131071 (i + 1 + Bx p i) && ltb (target p i) (size p)) → target p i < size p
+    jump-lands : (f : Flow) → flowAt p i ≡ f
+        → landsInside p i f ≡ (leb 131071 (i + 1 + Bx p i) && ltb (target p i) (size p)) → target p i < size p
     jump-lands f e h = ltb-true (target p i) (size p) (and-right (leb 131071 (i + 1 + Bx p i)) _ (sym h ∙ lands p ok i lt f e))
 
     jump-next : (f : Flow) → flowAt p i ≡ f → claims p i f ≡ (i + 1) ∷ target p i ∷ [] → leader p (i + 1) ≡ true
@@ -118,7 +130,8 @@ module _ (p : Proto) where
     -- ------------------------------------------------------------ the kinds of edges
 
     -- where the Then edge of a loop goes
-    pub then-lands : isLoop p i ≡ true → (thenOf p i < size p) × (leader p (thenOf p i) ≡ true) × (0 < thenOf p i → opcode p (thenOf p i - 1) ≡ numberOf TESTSET → ⊥)
+    pub then-lands : isLoop p i ≡ true
+        → (thenOf p i < size p) × (leader p (thenOf p i) ≡ true) × (0 < thenOf p i → opcode p (thenOf p i - 1) ≡ numberOf TESTSET → ⊥)
     unfolding landsInside claims reaches
     then-lands h = loop-cases p i h
         (λ c. let e = flow-is p i FORLOOP numeric-loop c (unfold rowOf row opOf in refl) in
@@ -132,19 +145,28 @@ module _ (p : Proto) where
         (λ d. rw d (rw (loop-front p i lt h d) at (at-code (thenOf p i) 0 (then-lands h .0) (then-lands h .1))))
 
     -- the Else edge of a test or of TFORLOOP
-    else-arrival : (f : Flow) → flowAt p i ≡ f → landsInside p i f ≡ ltb (i + 2) (size p) → claims p i f ≡ (i + 1) ∷ (i + 2) ∷ [] → leaving p i f ≡ then-edge (i + 1) ∷ else-edge (i + 2) ∷ [] → reaches p i f ≡ only (i + 2) → (isLoop p i ≡ true → thenOf p i ≡ i + 2 → ⊥) → Alongside p (blockOf p (i + 2)) (at (i + 2) 0)
+    else-arrival : (f : Flow) → flowAt p i ≡ f → landsInside p i f ≡ ltb (i + 2) (size p)
+        → claims p i f ≡ (i + 1) ∷ (i + 2) ∷ [] → leaving p i f ≡ then-edge (i + 1) ∷ else-edge (i + 2) ∷ []
+        → reaches p i f ≡ only (i + 2) → (isLoop p i ≡ true → thenOf p i ≡ i + 2 → ⊥)
+        → Alongside p (blockOf p (i + 2)) (at (i + 2) 0)
     unfolding sent
     else-arrival f e l c g r n =
         edge-arrival (i + 2) 0 (test-two f e l) (test-next f e c) (test-after f e c) (rw (e, g) (times-second (i + 2) (i + 1))) (λ h z. absurd (n h z)) (unset-reach p ok i (i + 2) lt (test-two f e l) (rw (e, r) (times-here (i + 2) (i + 2) [] refl)))
 
     -- the edge of a jump that is no loop
-    jump-arrival : (f : Flow) → flowAt p i ≡ f → landsInside p i f ≡ (leb 131071 (i + 1 + Bx p i) && ltb (target p i) (size p)) → claims p i f ≡ (i + 1) ∷ target p i ∷ [] → leaving p i f ≡ only (plain-edge (target p i)) → reaches p i f ≡ only (target p i) → isLoop p i ≡ false → Alongside p (blockOf p (target p i)) (at (target p i) 0)
+    jump-arrival : (f : Flow) → flowAt p i ≡ f
+        → landsInside p i f ≡ (leb 131071 (i + 1 + Bx p i) && ltb (target p i) (size p))
+        → claims p i f ≡ (i + 1) ∷ target p i ∷ [] → leaving p i f ≡ only (plain-edge (target p i))
+        → reaches p i f ≡ only (target p i) → isLoop p i ≡ false
+        → Alongside p (blockOf p (target p i)) (at (target p i) 0)
     unfolding sent
     jump-arrival f e l c g r n =
         edge-arrival (target p i) 0 (jump-lands f e l) (jump-next f e c) (jump-leads f e c) (rw (e, g) (times-here (target p i) (target p i) [] refl)) (λ q. clash q n) (unset-reach p ok i (target p i) lt (jump-lands f e l) (rw (e, r) (times-here (target p i) (target p i) [] refl)))
 
     -- the edge to the next word of a word that is no loop and no TESTSET
-    next-arrival : (k : ℕ) → leader p (i + 1) ≡ true → 1 ≤ sent p i (i + 1) → isLoop p i ≡ false → (opcode p i ≡ numberOf TESTSET → ⊥) → (opcode p i ≡ numberOf RETURN → ⊥) → Alongside p (blockOf p (i + 1)) (at (i + 1) k)
+    next-arrival : (k : ℕ) → leader p (i + 1) ≡ true → 1 ≤ sent p i (i + 1) → isLoop p i ≡ false
+        → (opcode p i ≡ numberOf TESTSET → ⊥) → (opcode p i ≡ numberOf RETURN → ⊥)
+        → Alongside p (blockOf p (i + 1)) (at (i + 1) k)
     next-arrival k h e n n27 n30 = edge-arrival (i + 1) k (not-last p ok i lt n30) h h e (λ q. clash q n) (unset-next p i n27)
 
     -- ------------------------------------------------------------ a range that its last word leaves
@@ -218,7 +240,8 @@ module _ (p : Proto) where
 
     -- ------------------------------------------------------------ a range that goes on into the next
 
-    pub onward-edge : Onward p i → nextBlock passes (map (leads p i) (leaving p i (flowAt p i))) ≡ go (blockOf p (i + 1))
+    pub onward-edge : Onward p i
+        → nextBlock passes (map (leads p i) (leaving p i (flowAt p i))) ≡ go (blockOf p (i + 1))
     unfolding nextBlock answered leads leaving
     onward-edge (straight-on e) = rw e
     onward-edge (skips-none e c) = rw (e, c)

@@ -2,7 +2,8 @@
 use mathlib.Core.Bool.{Bool, true, false, not, cond, _&&_}
 use Rattle.lua51_deserializer.specs.Word.{straight, skip, MOVE, LOADBOOL, GETUPVAL, CLOSURE, numberOf}
 use Rattle.cfg.proofs.Leaders.{Onward, straight-on, skips-none}
-use Rattle.follow.proofs.Words.{capture, loose, carried, loose-opener, loose-user, carried-none, named-is, next-straight, says, quiet-word, others, ordinary}
+use Rattle.follow.proofs.Words.{capture, loose, carried, loose-opener, loose-user, carried-none, named-is}
+use Rattle.follow.proofs.Words.{next-straight, says, quiet-word, others, ordinary}
 use Rattle.follow.proofs.Simulation.{Straight, done, on}
 use Prim.Native.Nat.{ℕ, zero, suc, _+_, _-_, _≤_, _<_}
 use native.Mathlib.Omega.{arith}
@@ -35,7 +36,8 @@ module _ (p : Proto) where
   unfolding pending
   pending-after i h = rw (add-one, h)
 
-  capture-split : (i m : ℕ) → allCaptures p i m ≡ true → 0 < m → (capture p (i + 1) ≡ true) × (leader p (i + 1) ≡ false) × (allCaptures p (i + 1) (m - 1) ≡ true)
+  capture-split : (i m : ℕ) → allCaptures p i m ≡ true → 0 < m
+      → (capture p (i + 1) ≡ true) × (leader p (i + 1) ≡ false) × (allCaptures p (i + 1) (m - 1) ≡ true)
   unfolding allCaptures
   capture-split i zero h l = absurd (omega arith)
   capture-split i (suc m) h l =
@@ -81,7 +83,8 @@ module _ (p : Proto) where
     capture-loose i le h = or-cases (is p i MOVE) (is p i GETUPVAL) (captured-word i le h .0) (λ e. rw (eqb-true (opcode p i) (numberOf MOVE) e)) (λ e. rw (eqb-true (opcode p i) (numberOf GETUPVAL) e))
 
     -- what is neither MOVE nor GETUPVAL is no capture
-    pub free : (i : ℕ) → i ≤ size p → (opcode p i ≡ numberOf MOVE → ⊥) → (opcode p i ≡ numberOf GETUPVAL → ⊥) → pending p i ≡ 0
+    pub free : (i : ℕ) → i ≤ size p → (opcode p i ≡ numberOf MOVE → ⊥) → (opcode p i ≡ numberOf GETUPVAL → ⊥)
+        → pending p i ≡ 0
     free i le a b = either-way (ltb 0 (pending p i))
         (λ l. or-cases (is p i MOVE) (is p i GETUPVAL) (captured-word i le (ltb-true 0 (pending p i) l) .0) (λ e. absurd (a (eqb-true (opcode p i) (numberOf MOVE) e))) (λ e. absurd (b (eqb-true (opcode p i) (numberOf GETUPVAL) e))))
         (λ l. omega (arith, ltb-false 0 (pending p i) l))
@@ -164,7 +167,8 @@ module _ (p : Proto) (ok : check p ≡ fine) where
           moves = λ z l. omega arith;
         }
 
-  pub run : (d i j k : ℕ) → i + d ≡ j → j ≤ size p → (user p i ≡ true → k ≡ A p (i - 1)) → ((m : ℕ) → i ≤ m → m < j → Onward p m) → Ran p i k j (over (statements p) i d)
+  pub run : (d i j k : ℕ) → i + d ≡ j → j ≤ size p → (user p i ≡ true → k ≡ A p (i - 1))
+      → ((m : ℕ) → i ≤ m → m < j → Onward p m) → Ran p i k j (over (statements p) i d)
   unfolding over
   run zero i j k e le keeps all = let z : i ≡ j = omega arith in
       subst (λ (x : ℕ). Ran p i k x []) z (record { steps = 0; written = []; kept = k; way = done; said = unfold flatMap in sym (append-nil (carried p i)); keeps = keeps; quiet = tt; moves = λ y l. absurd (omega arith) })

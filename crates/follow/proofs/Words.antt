@@ -1,8 +1,15 @@
 -- What a word writes is what its statements do: for each word by itself, an opener's action being carried to its user.
 -- Assumes nothing.
 use mathlib.Core.Bool.{Bool, true, false, not, cond, _&&_, _||_, false≢true}
-use Rattle.lua51_deserializer.specs.Word.{flag, straight, skip, jump, test, test-set, loop-entry, numeric-loop, generic-loop, exit, MOVE, LOADK, LOADBOOL, LOADNIL, GETUPVAL, GETGLOBAL, GETTABLE, SETGLOBAL, SETUPVAL, SETTABLE, NEWTABLE, SELF, ADD, SUB, MUL, DIV, MOD, POW, UNM, NOT, LEN, CONCAT, JMP, EQ, LT, LE, TEST, TESTSET, CALL, TAILCALL, RETURN, FORLOOP, FORPREP, TFORLOOP, SETLIST, CLOSE, CLOSURE, VARARG, UNKNOWN, numberOf, Op, Flow, rowOf, row, opOf}
-use Rattle.ast.specs.Statement.{register, constant, call, []ᵉ, _∷ᵉ_, Expr, registers, binary, vararg, Exprs, assign, op-concat, set-register, mark, if-statement, one, nil, index, op-equal, op-less, op-less-or-equal}
+use Rattle.lua51_deserializer.specs.Word.{flag, straight, skip, jump, test, test-set, loop-entry, numeric-loop}
+use Rattle.lua51_deserializer.specs.Word.{generic-loop, exit, MOVE, LOADK, LOADBOOL, LOADNIL, GETUPVAL, GETGLOBAL}
+use Rattle.lua51_deserializer.specs.Word.{GETTABLE, SETGLOBAL, SETUPVAL, SETTABLE, NEWTABLE, SELF, ADD, SUB, MUL, DIV}
+use Rattle.lua51_deserializer.specs.Word.{MOD, POW, UNM, NOT, LEN, CONCAT, JMP, EQ, LT, LE, TEST, TESTSET, CALL}
+use Rattle.lua51_deserializer.specs.Word.{TAILCALL, RETURN, FORLOOP, FORPREP, TFORLOOP, SETLIST, CLOSE, CLOSURE, VARARG}
+use Rattle.lua51_deserializer.specs.Word.{UNKNOWN, numberOf, Op, Flow, rowOf, row, opOf}
+use Rattle.ast.specs.Statement.{register, constant, call, []ᵉ, _∷ᵉ_, Expr, registers, binary, vararg, Exprs, assign}
+use Rattle.ast.specs.Statement.{op-concat, set-register, mark, if-statement, one, nil, index, op-equal, op-less}
+use Rattle.ast.specs.Statement.{op-less-or-equal}
 use Prim.Native.Nat.{ℕ, zero, suc, _+_, _-_, _*_, _<_}
 use native.Mathlib.Omega.{arith}
 use mathlib.Core.Path.{_≡_, refl, sym, ap, _∙_}
@@ -12,14 +19,18 @@ use borrow.Author.Tests.{ltb-true, leb-true, leb-false, eqb-true, ne-eqb, lt-ltb
 use Rattle.lua51_deserializer.proofs.Table.{among, op-number, opcode-test, op-is, flow-test, flow-opcodes, flow-not}
 use Rattle.lua51_lifter.specs.Check.{opener, user, check, allCaptures, fine, operand}
 use Rattle.lua51_deserializer.specs.Proto.{Proto, A, Bx, opcode, is, target, B, size, opAt, C, capturesOf, flowAt}
-use Rattle.lua51_lifter.specs.Lift.{captures, opened, concatenated, rk, taken, tailFor, statementsBy, callWith, condition, comparison}
-use Rattle.follow.specs.WordFollower.{jumped, upward, nils, RK, strung, captured, slots, At, takes, doing, testing, sets, owing, at, named}
-use Rattle.follow.specs.GraphFollower.{marks, opensIn, actions, inside, folds, insides, marked, opensOf, fold, outsides, outside, endingOf, bare, tailOpens, tailMarked, asks}
+use Rattle.lua51_lifter.specs.Lift.{captures, opened, concatenated, rk, taken, tailFor, statementsBy, callWith}
+use Rattle.lua51_lifter.specs.Lift.{condition, comparison}
+use Rattle.follow.specs.WordFollower.{jumped, upward, nils, RK, strung, captured, slots, At, takes, doing}
+use Rattle.follow.specs.WordFollower.{testing, sets, owing, at, named}
+use Rattle.follow.specs.GraphFollower.{marks, opensIn, actions, inside, folds, insides, marked, opensOf, fold}
+use Rattle.follow.specs.GraphFollower.{outsides, outside, endingOf, bare, tailOpens, tailMarked, asks}
 use Rattle.lua51_deserializer.specs.Range.{over, only}
 use Rattle.follow.specs.Account.{Action, does, opens, go, holds, Next, Step}
 use Rattle.lua51_deserializer.proofs.Tests.{not-is, or-right, or-left, and-left, either-way, or-cases, and-right, clash}
 use Rattle.follow.proofs.Statements.{acts, Plain, Quiet, plain-acts, quiet-cond, plain-quiet}
-use Rattle.lua51_lifter.proofs.Accepted.{no-user, opener-used, user-after, inside-c, inside-a, opcode-known, closure-captures}
+use Rattle.lua51_lifter.proofs.Accepted.{no-user, opener-used, user-after, inside-c, inside-a, opcode-known}
+use Rattle.lua51_lifter.proofs.Accepted.{closure-captures}
 use Rattle.cfg.specs.Graph.{leader}
 
 -- ------------------------------------------------------------ expressions
@@ -35,7 +46,8 @@ opens-registers r zero xs = refl
 opens-registers r (suc n) xs = opens-registers (r + 1) n xs
 
 -- an open call, by what is known of its arguments
-opens-call : (f : Expr) (xs ys : Exprs) (acts : List Action) → opensIn xs ≡ acts → marks xs ≡ ys → opensOf (call f xs) ≡ acts ++ only (opens (call f ys))
+opens-call : (f : Expr) (xs ys : Exprs) (acts : List Action) → opensIn xs ≡ acts → marks xs ≡ ys
+    → opensOf (call f xs) ≡ acts ++ only (opens (call f ys))
 unfolding opensOf opensIn fold
 opens-call f xs ys acts e d = rw (← e, ← d)
 
@@ -47,7 +59,8 @@ rk-bare : (x : ℕ) → Bare (rk x)
 unfolding Bare rk inside outside fold
 rk-bare x = go (ltb 255 x)
   where
-    go : (b : Bool) → (inside (cond b (constant (x - 256)) (register x)) ≡ []) × (outside (cond b (constant (x - 256)) (register x)) ≡ cond b (constant (x - 256)) (register x))
+    go : (b : Bool)
+        → (inside (cond b (constant (x - 256)) (register x)) ≡ []) × (outside (cond b (constant (x - 256)) (register x)) ≡ cond b (constant (x - 256)) (register x))
     go true = (refl, refl)
     go false = (refl, refl)
 
@@ -136,7 +149,8 @@ carried-none p i h = rw h
 abbrev pub loose : ℕ → Bool
 loose o = not (among (CALL ∷ TAILCALL ∷ RETURN ∷ SETLIST ∷ VARARG ∷ []) o)
 
-loose-parts : (o : ℕ) → loose o ≡ true → (eqb o (numberOf CALL) ≡ false) × (eqb o (numberOf TAILCALL) ≡ false) × (eqb o (numberOf RETURN) ≡ false) × (eqb o (numberOf SETLIST) ≡ false) × (eqb o (numberOf VARARG) ≡ false)
+loose-parts : (o : ℕ) → loose o ≡ true
+    → (eqb o (numberOf CALL) ≡ false) × (eqb o (numberOf TAILCALL) ≡ false) × (eqb o (numberOf RETURN) ≡ false) × (eqb o (numberOf SETLIST) ≡ false) × (eqb o (numberOf VARARG) ≡ false)
 loose-parts o h =
     let a = not-is (among (CALL ∷ TAILCALL ∷ RETURN ∷ SETLIST ∷ VARARG ∷ []) o) h in
     let b = or-right (eqb o (numberOf CALL)) _ a in
@@ -188,7 +202,8 @@ module _ (p : Proto) (i k : ℕ) (keeps : user p i ≡ true → k ≡ A p (i - 1
       (λ e. rw (u, e) (opens-registers first (B p i - 1) []ᵉ))
 
 -- the call that an opener's result is
-opened-call : (p : Proto) (i : ℕ) → is p i VARARG ≡ false → (eqb (B p i) 0 ≡ true → 0 < i) → opened p i ≡ callWith p i (tailFor p i)
+opened-call : (p : Proto) (i : ℕ) → is p i VARARG ≡ false → (eqb (B p i) 0 ≡ true → 0 < i)
+    → opened p i ≡ callWith p i (tailFor p i)
 unfolding opened taken
 opened-call p zero h b = either-way (eqb (B p zero) 0) (λ e. absurd (omega (arith, b e))) (λ e. rw (h, e))
 opened-call p (suc j) h b = let e : suc j - 1 ≡ j = omega arith in rw (h, e)
@@ -233,17 +248,23 @@ module _ (p : Proto) (ok : check p ≡ fine) (i : ℕ) (lt : i < size p) where
       rw (op-is p i TEST q) (record { of = register (A p i); flag = C p i; small = flag-c TEST q (unfold rowOf row opOf in refl); said = refl; done = refl; plainly = refl }))
       (λ h. absurd (false≢true h)))))
     where
-      compared : (o : Op) (op : ℕ) → is p i o ≡ true → rowOf (numberOf o) .a ≡ flag → statementsBy p i o ≡ comparison p i op → doing p i k o ≡ testing p i k (holds (binary op (rk (B p i)) (rk (C p i)))) (A p i) (at (i + 1) 0) → Test p i k (opAt p i) (at (i + 1) 0)
+      compared : (o : Op) (op : ℕ) → is p i o ≡ true → rowOf (numberOf o) .a ≡ flag
+          → statementsBy p i o ≡ comparison p i op
+          → doing p i k o ≡ testing p i k (holds (binary op (rk (B p i)) (rk (C p i)))) (A p i) (at (i + 1) 0)
+          → Test p i k (opAt p i) (at (i + 1) 0)
       compared o op e r said done =
           let q = eqb-true (opcode p i) (numberOf o) e in
           rw (op-is p i o q) (record { of = binary op (rk (B p i)) (rk (C p i)); flag = A p i; small = flag-a o q r; said = said; done = done; plainly = refl })
 
-  pub set-word : (k : ℕ) → opcode p i ≡ numberOf TESTSET → Test p i k (opAt p i) (owing (only (sets (A p i) (register (B p i)))) (i + 1))
+  pub set-word : (k : ℕ) → opcode p i ≡ numberOf TESTSET
+      → Test p i k (opAt p i) (owing (only (sets (A p i) (register (B p i)))) (i + 1))
   unfolding statementsBy doing bare fold
   set-word k e = rw (op-is p i TESTSET e) (record { of = register (B p i); flag = C p i; small = flag-c TESTSET e (unfold rowOf row opOf in refl); said = refl; done = refl; plainly = refl })
 
   -- the cases of such other words
-  by-opcode : {T : Type 0} → others (opcode p i) ≡ true → (opcode p i ≡ numberOf CALL → T) → (opcode p i ≡ numberOf TAILCALL → T) → (opcode p i ≡ numberOf SETLIST → T) → (opcode p i ≡ numberOf VARARG → T) → (ordinary (opcode p i) ≡ true → T) → T
+  by-opcode : {T : Type 0} → others (opcode p i) ≡ true → (opcode p i ≡ numberOf CALL → T)
+      → (opcode p i ≡ numberOf TAILCALL → T) → (opcode p i ≡ numberOf SETLIST → T) → (opcode p i ≡ numberOf VARARG → T)
+      → (ordinary (opcode p i) ≡ true → T) → T
   by-opcode {T} h at-call at-tailcall at-setlist at-vararg other =
       or-cases (among (CALL ∷ TAILCALL ∷ SETLIST ∷ VARARG ∷ []) (opcode p i) || ordinary (opcode p i)) _ h
       (λ h. or-cases (among (CALL ∷ TAILCALL ∷ SETLIST ∷ VARARG ∷ []) (opcode p i)) _ h calls other)
@@ -327,7 +348,8 @@ module _ (p : Proto) (ok : check p ≡ fine) (i : ℕ) (lt : i < size p) where
   calm o = or-cases (not (ordinary (opcode p i))) _ (opcode-test p i (λ o. not (ordinary o) || loose o) (unfold ordinary in refl)) (λ n. clash o (not-is (ordinary (opcode p i)) n)) (λ y. y)
 
   -- a straight word goes on to the next, or past its captures, and an opener keeps its A
-  pub next-straight : (k : ℕ) → flowAt p i ≡ straight → doing p i k (opAt p i) .next ≡ go (at (i + 1 + cond (is p i CLOSURE) (capturesOf p i) 0) (cond (opener p i) (A p i) 0))
+  pub next-straight : (k : ℕ) → flowAt p i ≡ straight
+      → doing p i k (opAt p i) .next ≡ go (at (i + 1 + cond (is p i CLOSURE) (capturesOf p i) 0) (cond (opener p i) (A p i) 0))
   unfolding doing opener
   next-straight k e = by-opcode (flow-test p i straight others e (unfold ordinary in refl))
       (λ c. rw (op-is p i CALL c, c, plus) (either-way (eqb (C p i) 0) (λ z. rw z) (λ z. either-way (eqb (C p i) 1) (λ y. rw (z, y)) (λ y. rw (z, y)))))
@@ -354,12 +376,14 @@ module _ (p : Proto) (ok : check p ≡ fine) (i : ℕ) (lt : i < size p) where
   unfolding carried
   behind h = let less : i + 1 - 1 ≡ i = omega arith in rw (opener-used p ok i lt h, less)
 
-  says-loose : (o : Op) (ws : List Action) → loose (opcode p i) ≡ true → opAt p i ≡ o → acts (statementsBy p i o) ≡ ws → Says (opAt p i) ws
+  says-loose : (o : Op) (ws : List Action) → loose (opcode p i) ≡ true → opAt p i ≡ o → acts (statementsBy p i o) ≡ ws
+      → Says (opAt p i) ws
   says-loose o ws h r e = rw (r, none-behind (loose-opener p i h), carried-none p i (loose-user p i h)) (append-nil (acts (statementsBy p i o)) ∙ e)
 
   module _ (k : ℕ) (keeps : user p i ≡ true → k ≡ A p (i - 1)) where
     -- an open call of word i, at its user
-    says-open : opener p i ≡ true → is p i VARARG ≡ false → (u : user p i ≡ eqb (B p i) 0) → carried p (i + 1) ≡ carried p i ++ only (opens (call (register (A p i)) (takes p i k (A p i + 1))))
+    says-open : opener p i ≡ true → is p i VARARG ≡ false → (u : user p i ≡ eqb (B p i) 0)
+        → carried p (i + 1) ≡ carried p i ++ only (opens (call (register (A p i)) (takes p i k (A p i + 1))))
     unfolding opensOf fold
     says-open o v u = behind o ∙ (ap {B = List Action} opensOf (opened-call p i v (λ e. user-after p ok i lt (u ∙ e))) ∙ opens-call (register (A p i)) (taken p i (A p i + 1) (tailFor p i)) _ _ (taken-opens p i k keeps u (A p i + 1)) (taken-marks p i k keeps u (A p i + 1)))
 
@@ -424,12 +448,14 @@ module _ (p : Proto) (ok : check p ≡ fine) (i : ℕ) (lt : i < size p) where
         (λ c. rw (op-is p i VARARG c) (says-vararg c))
         (λ o. says-loose (opAt p i) (doing p i k (opAt p i) .writes) (calm o) refl (plain-acts (statementsBy p i (opAt p i)) (ordinary-word k o .0) ∙ sym (ap {B = List Action} (λ (s : Step At). s .writes) (ordinary-word k o .1))))
 
-    says-test : {s : At} → loose (opcode p i) ≡ true → Test p i k (opAt p i) s → Says (opAt p i) (doing p i k (opAt p i) .writes)
+    says-test : {s : At} → loose (opcode p i) ≡ true → Test p i k (opAt p i) s
+        → Says (opAt p i) (doing p i k (opAt p i) .writes)
     unfolding testing flatMap actions
     says-test l t = says-loose (opAt p i) (doing p i k (opAt p i) .writes) l refl (rw (t .said, t .done))
 
     -- a word of one opcode
-    says-as : (o : Op) → is p i o ≡ true → loose (opcode p i) ≡ true → acts (statementsBy p i o) ≡ doing p i k o .writes → Says (opAt p i) (doing p i k (opAt p i) .writes)
+    says-as : (o : Op) → is p i o ≡ true → loose (opcode p i) ≡ true → acts (statementsBy p i o) ≡ doing p i k o .writes
+        → Says (opAt p i) (doing p i k (opAt p i) .writes)
     says-as o e l s = says-loose (opAt p i) (doing p i k (opAt p i) .writes) l refl (rw (op-is p i o (eqb-true (opcode p i) (numberOf o) e)) s)
 
     -- the law of one word

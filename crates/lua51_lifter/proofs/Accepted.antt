@@ -7,10 +7,14 @@ use lib.Dec.{leb, ltb, eqb}
 use borrow.Author.Tests.{ltb-true, ltb-false, leb-true, eqb-true, eqb-false, eq-eqb}
 use Rattle.lua51_deserializer.specs.Word.{TESTSET, RETURN, CLOSURE, UNKNOWN, Flow, rowOf, numberOf}
 use Rattle.lua51_deserializer.specs.Proto.{Proto, size, opcode, is, A, flowAt, B, C, capturesOf}
-use Rattle.lua51_lifter.specs.Check.{check, fine, lastFault, refuseIf, Verdict, _else_, user, firstRefusal, slot, missing-results, operandFault, useVerdict, operand, opener, wordVerdict, unused-results, reached, matches, headFault, allCaptures, landsInside, reaches}
+use Rattle.lua51_lifter.specs.Check.{check, fine, lastFault, refuseIf, Verdict, _else_, user, firstRefusal, slot}
+use Rattle.lua51_lifter.specs.Check.{missing-results, operandFault, useVerdict, operand, opener, wordVerdict}
+use Rattle.lua51_lifter.specs.Check.{unused-results, reached, matches, headFault, allCaptures, landsInside}
+use Rattle.lua51_lifter.specs.Check.{reaches}
 use Rattle.cfg.specs.Graph.{leader}
 use Rattle.lua51_lifter.proofs.Verdicts.{refused-not, else-then, first-all, else-first}
-use Rattle.lua51_deserializer.proofs.Tests.{and-left, or-left, not-is, either-way, and-right, clash, not-not, or-right, and-not}
+use Rattle.lua51_deserializer.proofs.Tests.{and-left, or-left, not-is, either-way, and-right, clash, not-not, or-right}
+use Rattle.lua51_deserializer.proofs.Tests.{and-not}
 use Rattle.cfg.proofs.Leaders.{end-leads}
 use Rattle.lua51_deserializer.specs.Range.{times, sum}
 use Rattle.lua51_deserializer.proofs.Table.{word-beyond}
@@ -131,7 +135,8 @@ module _ (p : Proto) (ok : check p ≡ fine) where
     closure-captures h =
         not-not _ (and-not (is p i CLOSURE) _ (refused-not _ 13 i (else-first _ (refuseIf (is p i TESTSET && reached p (i + 1)) 14 i) behind-results)) (eq-eqb (opcode p i) (numberOf CLOSURE) h))
 
-    pub set-unreached : opcode p i ≡ numberOf TESTSET → (j : ℕ) → j < size p → times (i + 1) (reaches p j (flowAt p j)) ≡ 0
+    pub set-unreached : opcode p i ≡ numberOf TESTSET → (j : ℕ) → j < size p
+        → times (i + 1) (reaches p j (flowAt p j)) ≡ 0
     unfolding reached
     set-unreached h j l =
         let none : reached p (i + 1) ≡ false = and-not (is p i TESTSET) _ (refused-not _ 14 i (else-then (refuseIf (is p i CLOSURE && not (allCaptures p i (capturesOf p i))) 13 i) _ behind-results)) (eq-eqb (opcode p i) (numberOf TESTSET) h) in

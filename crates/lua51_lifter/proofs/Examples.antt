@@ -2,19 +2,27 @@
 use Prim.Native.Nat.{ℕ}
 use mathlib.Core.List.{List, [], _∷_, _++_, flatMap}
 use mathlib.Core.Path.{_≡_, refl}
-use Rattle.lua51_deserializer.specs.Word.{MOVE, LOADK, LOADBOOL, LOADNIL, GETUPVAL, GETGLOBAL, GETTABLE, SETGLOBAL, SETUPVAL, SETTABLE, NEWTABLE, SELF, ADD, SUB, MUL, DIV, MOD, POW, UNM, NOT, LEN, CONCAT, JMP, EQ, LT, LE, TEST, TESTSET, CALL, TAILCALL, RETURN, FORLOOP, FORPREP, TFORLOOP, SETLIST, CLOSE, CLOSURE, VARARG, opOf, row, rowOf}
+use Rattle.lua51_deserializer.specs.Word.{MOVE, LOADK, LOADBOOL, LOADNIL, GETUPVAL, GETGLOBAL, GETTABLE, SETGLOBAL}
+use Rattle.lua51_deserializer.specs.Word.{SETUPVAL, SETTABLE, NEWTABLE, SELF, ADD, SUB, MUL, DIV, MOD, POW, UNM, NOT}
+use Rattle.lua51_deserializer.specs.Word.{LEN, CONCAT, JMP, EQ, LT, LE, TEST, TESTSET, CALL, TAILCALL, RETURN, FORLOOP}
+use Rattle.lua51_deserializer.specs.Word.{FORPREP, TFORLOOP, SETLIST, CLOSE, CLOSURE, VARARG, opOf, row, rowOf}
 use Rattle.lua51_deserializer.specs.Range.{sum, times, over}
 use Rattle.lua51_deserializer.specs.Proto.{Proto}
 use Rattle.lua51_deserializer.specs.Encode.{abc, abx, jumps}
 use Rattle.lines.specs.Line.{digits, decimal, column, line}
 use Rattle.lines.specs.Text.{bytes}
 use Rattle.lua51_deserializer.specs.Chunk.{Value, Text, kind-string, kind-nil, Nil, kindOf}
-use Rattle.cfg.specs.Graph.{claims, leader, blockOf, leaderFrom, past, leaving, exits, entering, isLoop, thenOf, diverted, betweenOf}
-use Rattle.lua51_lifter.specs.Check.{firstRefusal, headFault, lastFault, operand, operandFault, landsInside, tests, wordVerdict, opener, user, slot, matches, unused-results, missing-results, allCaptures, reaches, reached, useVerdict, check, fine}
+use Rattle.cfg.specs.Graph.{claims, leader, blockOf, leaderFrom, past, leaving, exits, entering, isLoop, thenOf}
+use Rattle.cfg.specs.Graph.{diverted, betweenOf}
+use Rattle.lua51_lifter.specs.Check.{firstRefusal, headFault, lastFault, operand, operandFault, landsInside}
+use Rattle.lua51_lifter.specs.Check.{tests, wordVerdict, opener, user, slot, matches, unused-results}
+use Rattle.lua51_lifter.specs.Check.{missing-results, allCaptures, reaches, reached, useVerdict, check, fine}
 use Rattle.ast.specs.Statement.{count, expr, exprs, tailNumbers, run, registers}
-use Rattle.lua51_lifter.specs.Lift.{rk, condition, concatenated, captures, taken, opened, statementsBy, pending, statements, onThen}
+use Rattle.lua51_lifter.specs.Lift.{rk, condition, concatenated, captures, taken, opened, statementsBy, pending}
+use Rattle.lua51_lifter.specs.Lift.{statements, onThen}
 use Rattle.lua51_lifter.specs.Blocks.{front, leads, codeBlock, entryBlock, betweenBlock, graph}
-use Rattle.lua51_lifter.specs.Listing.{value, constantLines, statementLine, edgeLine, blockLine, blockLines, listing}
+use Rattle.lua51_lifter.specs.Listing.{value, constantLines, statementLine, edgeLine, blockLine, blockLines}
+use Rattle.lua51_lifter.specs.Listing.{listing}
 
 -- the words; those at 45 and 46 are the captures of the closure before them
 sample-words : List ℕ

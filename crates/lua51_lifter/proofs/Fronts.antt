@@ -12,7 +12,8 @@ use Rattle.cfg.specs.Graph.{isLoop, diverted, claims, thenOf, leader, leaving, 
 use Rattle.lua51_lifter.specs.Blocks.{front}
 use Rattle.ast.specs.Statement.{Stmt}
 use Rattle.lua51_lifter.specs.Check.{check, fine, reaches}
-use Rattle.cfg.proofs.Entering.{sent, diverted-many, loop-cases, loop-sends, crowd, undiverted-one, entering-at, loop-leads}
+use Rattle.cfg.proofs.Entering.{sent, diverted-many, loop-cases, loop-sends, crowd, undiverted-one, entering-at}
+use Rattle.cfg.proofs.Entering.{loop-leads}
 use Rattle.lua51_lifter.specs.Lift.{onThen}
 use Rattle.lua51_deserializer.proofs.Tests.{either-way}
 use Rattle.lua51_deserializer.specs.Range.{times, over, only}
@@ -49,7 +50,8 @@ module _ (p : Proto) where
       (λ l. rw (l, ne-eqb (thenOf p i) t (h l)))
       (λ l. rw l)
 
-  loop-none : (t : ℕ) → ((j : ℕ) → j < size p → isLoop p j ≡ true → thenOf p j ≡ t → entering p t ≡ 1 → ⊥) → loop-part t ≡ []
+  loop-none : (t : ℕ) → ((j : ℕ) → j < size p → isLoop p j ≡ true → thenOf p j ≡ t → entering p t ≡ 1 → ⊥)
+      → loop-part t ≡ []
   unfolding loop-part
   loop-none t h = either-way (eqb (entering p t) 1)
       (λ e. rw e (over-none (loop-at t) 0 (size p) (λ i lt. loop-at-none t (0 + i) (λ l q. h (0 + i) (omega arith) l q (eqb-true (entering p t) 1 e)))))
@@ -58,7 +60,9 @@ module _ (p : Proto) where
   -- ------------------------------------------------------------ an edge that brings nothing
 
   -- an edge of word i, which is no loop's only edge to t
-  pub plain-front : (i t : ℕ) → i < size p → leader p (i + 1) ≡ true → 1 ≤ sent p i t → (isLoop p i ≡ true → thenOf p i ≡ t → 2 ≤ sent p i t) → (0 < t → opcode p (t - 1) ≡ numberOf TESTSET → ⊥) → front p t ≡ []
+  pub plain-front : (i t : ℕ) → i < size p → leader p (i + 1) ≡ true → 1 ≤ sent p i t
+      → (isLoop p i ≡ true → thenOf p i ≡ t → 2 ≤ sent p i t) → (0 < t → opcode p (t - 1) ≡ numberOf TESTSET → ⊥)
+      → front p t ≡ []
   plain-front i t lt h e twice unset = front-parts t ∙ rw (set-none t unset) (loop-none t alone)
     where
       alone : (j : ℕ) → j < size p → isLoop p j ≡ true → thenOf p j ≡ t → entering p t ≡ 1 → ⊥
@@ -74,7 +78,8 @@ module _ (p : Proto) where
       alone j l q s one = let f : 1 ≤ sent p j 0 = rw s at (loop-sends p j q) in omega (arith, entering-at p j 0 l (loop-leads p j l q))
 
   -- the edge of a between block
-  pub diverted-front : (i : ℕ) → diverted p i ≡ true → (0 < thenOf p i → opcode p (thenOf p i - 1) ≡ numberOf TESTSET → ⊥) → front p (thenOf p i) ≡ []
+  pub diverted-front : (i : ℕ) → diverted p i ≡ true
+      → (0 < thenOf p i → opcode p (thenOf p i - 1) ≡ numberOf TESTSET → ⊥) → front p (thenOf p i) ≡ []
   diverted-front i h unset = front-parts (thenOf p i) ∙ rw (set-none (thenOf p i) unset) (loop-none (thenOf p i) (λ j l q s one. diverted-many p i h one))
 
   -- ------------------------------------------------------------ an edge that brings an assignment
@@ -125,10 +130,12 @@ module _ (p : Proto) where
 
   -- ------------------------------------------------------------ no TESTSET stands before the word that an edge goes to
 
-  pub unset-reach : check p ≡ fine → (i t : ℕ) → i < size p → t < size p → 1 ≤ times t (reaches p i (flowAt p i)) → 0 < t → opcode p (t - 1) ≡ numberOf TESTSET → ⊥
+  pub unset-reach : check p ≡ fine → (i t : ℕ) → i < size p → t < size p → 1 ≤ times t (reaches p i (flowAt p i))
+      → 0 < t → opcode p (t - 1) ≡ numberOf TESTSET → ⊥
   unset-reach ok i t lt l h pos e =
       let q : t - 1 + 1 ≡ t = omega arith in
       omega (arith, rw q at (set-unreached p ok (t - 1) (omega arith) e i lt))
 
-  pub unset-next : (i : ℕ) → (opcode p i ≡ numberOf TESTSET → ⊥) → 0 < i + 1 → opcode p (i + 1 - 1) ≡ numberOf TESTSET → ⊥
+  pub unset-next : (i : ℕ) → (opcode p i ≡ numberOf TESTSET → ⊥) → 0 < i + 1 → opcode p (i + 1 - 1) ≡ numberOf TESTSET
+      → ⊥
   unset-next i h pos e = let q : i + 1 - 1 ≡ i = omega arith in h (rw q at e)

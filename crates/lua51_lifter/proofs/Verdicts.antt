@@ -3,7 +3,9 @@ use mathlib.Core.Bool.{Bool, true, false, not, _&&_, _||_}
 use Prim.Native.Nat.{ℕ, zero, suc, _+_, _<_, _≤_, _-_}
 use native.Mathlib.Omega.{arith}
 use mathlib.Core.Path.{_≡_, refl, subst}
-use Rattle.lua51_lifter.specs.Check.{refuseIf, Verdict, firstRefusal, fine, _else_, wrong, check, wordVerdict, useVerdict, operandFault, headFault, unused-results, lastFault, missing-results, landsInside, tests, allCaptures, reached}
+use Rattle.lua51_lifter.specs.Check.{refuseIf, Verdict, firstRefusal, fine, _else_, wrong, check, wordVerdict}
+use Rattle.lua51_lifter.specs.Check.{useVerdict, operandFault, headFault, unused-results, lastFault}
+use Rattle.lua51_lifter.specs.Check.{missing-results, landsInside, tests, allCaptures, reached}
 use Rattle.lua51_deserializer.specs.Proto.{Proto, size, flowAt, is, capturesOf}
 use Rattle.lua51_deserializer.specs.Word.{JMP, TESTSET, CLOSURE}
 
@@ -43,7 +45,8 @@ refuse-from : {k : ℕ} (fault : Bool) (n p : ℕ) → k ≤ n → From k (refus
 refuse-from true n p h = from-on h
 refuse-from false n p h = not-one
 
-first-from : {k : ℕ} (f : ℕ → Verdict) → ((i : ℕ) → From k (f i)) → (from count : ℕ) → From k (firstRefusal f from count)
+first-from : {k : ℕ} (f : ℕ → Verdict) → ((i : ℕ) → From k (f i)) → (from count : ℕ)
+    → From k (firstRefusal f from count)
 unfolding firstRefusal
 first-from f h from zero = not-one
 first-from f h from (suc count) = else-from (h from) (first-from f h (from + 1) count)
