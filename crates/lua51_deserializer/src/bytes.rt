@@ -34,7 +34,7 @@ pub fn byte_at(s: &[u8], at: usize) -> u8
 pub fn int_at(s: &[u8], at: usize) -> u32
     ensures { λ r. ⌜ r ≡ intAt (now (s .entry)) at ⌝ }
 {
-    let lowest = wide(byte_behind(s, at, 0));
+    let lowest = wide(byte_at(s, at));
     let second = wide(byte_behind(s, at, 1));
     let third = wide(byte_behind(s, at, 2));
     let highest = wide(byte_behind(s, at, 3));

@@ -3,7 +3,6 @@
 use crate::bytes::byte_at;
 use crate::bytes::int_at;
 ghost use mathlib.Core.Path.{_≡_};
-ghost use mathlib.Core.Bool.{true, false};
 ghost use Prim.Native.Nat.{_+_};
 ghost use lib.Dec.{leb};
 ghost use lib.ListN.{length};
@@ -125,7 +124,8 @@ pub fn body(s: &[u8], c: Cursor, size: usize) -> Cursor
         return Cursor::Here(at);
     }
     if whole(s, at, size) {
-        if byte_at(s, at + (size - 1)) != 0 {
+        let last = byte_at(s, at + (size - 1));
+        if last != 0 {
             return Cursor::OutOfRange(at);
         }
         return Cursor::Here(at + size);
