@@ -13,6 +13,9 @@ use Rattle.lua51_deserializer.proofs.chunk.begin.Tie as tie
 add-next : tie.Need-add-next
 add-next c = search needs
 
+cast-placed : tie.Need-cast-placed
+cast-placed c = search needs
+
 mul-placed : tie.Need-mul-placed
 mul-placed c = search needs
 
@@ -56,6 +59,7 @@ begin-spec =
     tie.close
     (tie.spec
     add-next
+    cast-placed
     mul-placed
     element-write-placed
     mul-placed-2

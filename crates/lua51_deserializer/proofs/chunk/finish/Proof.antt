@@ -8,6 +8,7 @@ use Rattle.lua51_deserializer.specs.Chunk.{finish}
 use Rattle.lua51_deserializer.specs.Walked.{placesOf}
 use Rattle.lua51_deserializer.proofs.Places.{tailed}
 use Rattle.lua51_deserializer.proofs.Nesting.{sticky-walk, goes-walk, walk-is}
+use Rattle.lua51_deserializer.proofs.Bounds.{bounded-here}
 use Rattle.lua51_deserializer.proofs.chunk.finish.Statement.{statement}
 use Rattle.lua51_deserializer.proofs.chunk.finish.Tie as tie
 
@@ -18,6 +19,12 @@ returns : tie.Need-returns
 returns c =
     let a = c .before .before .args in
     sticky-walk (placesOf (a .w .functions)) (finish (a .s .now) (a .me)) (a .w .cursor) (c .match .keys2)
+
+cast-ended : tie.Need-cast-ended
+cast-ended c =
+    let d = c .before .before in
+    let s = d .before .before .before in
+    omega (arith, s .pre .short, bounded-here (length (s .args .s .now)) (d .cursor .given .0 .0) (s .args .w .cursor) (d .cursor .given .1) (s .pre .reached))
 
 mul-ended : tie.Need-mul-ended
 mul-ended c = search needs
@@ -51,6 +58,7 @@ finish-spec =
     (tie.spec
     enum-known-cursor
     returns
+    cast-ended
     mul-ended
     element-write-ended
     lines-requires

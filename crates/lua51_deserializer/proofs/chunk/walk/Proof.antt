@@ -1,10 +1,13 @@
 -- `chunk::walk` meets its contract. Assumes nothing.
 use mathlib.Core.Path.{_∙_}
+use native.Mathlib.Omega.{arith}
 use borrow.Author.Needs.{needs}
+use Rattle.lua51_deserializer.specs.Chunk.{header}
 use Rattle.lua51_deserializer.specs.Cursor.{readOf}
 use Rattle.lua51_deserializer.specs.Walked.{walkOf}
 use Rattle.lua51_deserializer.specs.Range.{over}
 use Rattle.lua51_deserializer.proofs.Nesting.{walk-long, walk-whole}
+use Rattle.lua51_deserializer.proofs.Bounds.{signature-bounded}
 use Rattle.lua51_deserializer.proofs.chunk.walk.Statement.{statement}
 use Rattle.lua51_deserializer.proofs.chunk.walk.Tie as tie
 
@@ -16,7 +19,7 @@ signature-requires : tie.Need-signature-requires
 signature-requires c κs = search needs
 
 function-requires : tie.Need-function-requires
-function-requires c κs = search needs
+function-requires c κs = record { short = c .before .if1 .left; reached = rw (c .signature .ensures) (signature-bounded (c .before .before .before .args .s .now) header 0 (omega arith)) }
 
 ends-requires : tie.Need-ends-requires
 ends-requires c κs = search needs
