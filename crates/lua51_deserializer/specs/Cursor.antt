@@ -25,7 +25,7 @@ elementOf s Constant = constant s
 elementOf s Local = λ i. string s i then field s 4 then field s 4
 elementOf s Name = string s
 
--- a reading that stands at most at n
+-- a reading that stands at most at n; of a refusal nothing is asked
 abbrev pub Bounded : ℕ → Read → Type 0
 Bounded n (here i) = i ≤ n
 Bounded n (refused k p) = 0 ≤ n

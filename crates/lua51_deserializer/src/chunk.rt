@@ -2,6 +2,7 @@
 // is nested in; or refusals 1 to 6.
 use crate::bytes::byte_at;
 use crate::bytes::int_at;
+use crate::fields::BYTE_SIZE;
 use crate::fields::Cursor;
 use crate::fields::MOST;
 use crate::fields::code;
@@ -27,6 +28,7 @@ pub struct Functions {
     pub tails: [u32; 256],
     // the number of the function that it is nested in, 0 for main: 256 bytes, as no number is above 255
     pub parents: [u8; 256],
+    // how many have begun
     pub count: usize,
 }
 
@@ -36,12 +38,14 @@ pub struct Walked {
     pub functions: Functions,
 }
 
+// Limits: refusals 1 and 5.
 const MOST_BYTES: usize = 65536;
 
 const MOST_FUNCTIONS: usize = 256;
 
 const MOST_DEPTH: usize = 32;
 
+// What a chunk begins with.
 const HEADER_SIZE: usize = 12;
 
 const HEADER: [u8; 12] = [
@@ -66,8 +70,8 @@ fn exactly(s: &[u8], c: Cursor, b: u8) -> Cursor
     let Cursor::Here(at) = c else {
         return c;
     };
-    if whole(s, at, 1) {
-        let behind = at + 1;
+    if whole(s, at, BYTE_SIZE) {
+        let behind = at + BYTE_SIZE;
         if byte_at(s, at) != b {
             return Cursor::HeaderDiffers(at);
         }
