@@ -23,14 +23,17 @@ use Rattle.lua51_deserializer.proofs.fields.Cursor.{the-type}
 abbrev pub refusals : List ℕ
 refusals = 1 ∷ 2 ∷ 3 ∷ 4 ∷ 5 ∷ 6 ∷ []
 
+pub refusal : (c : Cursor) → OneOf refusals (tagOf the-type c) → (n : ℕ) × (p : ℕ) × (readOf c ≡ refused n p)
+refusal (Here i) h = absurd (miss refusals 0 tt h)
+refusal TooLong h = (1, 0, refl)
+refusal (HeaderDiffers i) h = (2, i, refl)
+refusal (Ended i) h = (3, i, refl)
+refusal (OutOfRange i) h = (4, i, refl)
+refusal (TooManyFunctions i) h = (5, i, refl)
+refusal (LeftOver i) h = (6, i, refl)
+
 pub sticky : (c : Cursor) (f : ℕ → Read) → OneOf refusals (tagOf the-type c) → readOf c ≡ (readOf c then f)
-sticky (Here i) f h = absurd (miss refusals 0 tt h)
-sticky TooLong f h = refl
-sticky (HeaderDiffers i) f h = refl
-sticky (Ended i) f h = refl
-sticky (OutOfRange i) f h = refl
-sticky (TooManyFunctions i) f h = refl
-sticky (LeftOver i) f h = refl
+sticky c f h = let (n, p, e) = refusal c h in rw e refl
 
 pub goes : (c : Cursor) (f : ℕ → Read) (i : ℕ) (r : Read) → c ≡ Here i → r ≡ f i → r ≡ (readOf c then f)
 goes c f i r e h = rw e h

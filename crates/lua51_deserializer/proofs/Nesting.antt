@@ -7,24 +7,18 @@ use native.Mathlib.Omega.{arith}
 use native.Mathlib.Nat.{sub-zero}
 use borrow.Author.Tests.{lt-ltb, le-ltb}
 use lib.ListN.{length}
-use types.Run.{OneOf, miss}
+use types.Run.{OneOf}
 use denote.Enum.Declared.{tagOf}
 use Rattle.lua51_deserializer.specs.Chunk.{Read, here, refused, _then_, intAt, countTo, Place, Walk, walked, _next_, many, begin, nest, finish, function, header, signature, ends, walk, most}
 use Rattle.lua51_deserializer.specs.Cursor.{readOf}
 use Rattle.lua51_deserializer.specs.declared.fields.Cursor.{Cursor}
-use Rattle.lua51_deserializer.specs.declared.fields.Cursor.the-variants.{Here, TooLong, HeaderDiffers, Ended, OutOfRange, TooManyFunctions, LeftOver}
-use Rattle.lua51_deserializer.proofs.Cursor.{refusals}
+use Rattle.lua51_deserializer.specs.declared.fields.Cursor.the-variants.{Here}
+use Rattle.lua51_deserializer.proofs.Cursor.{refusals, refusal}
 use Rattle.lua51_deserializer.proofs.fields.Cursor.{the-type}
 
 module _ (ps : List Place) (f : List Place → ℕ → Walk) where
   pub sticky-walk : (c : Cursor) → OneOf refusals (tagOf the-type c) → walked (readOf c) ps ≡ (walked (readOf c) ps next f)
-  sticky-walk (Here i) h = absurd (miss refusals 0 tt h)
-  sticky-walk TooLong h = refl
-  sticky-walk (HeaderDiffers i) h = refl
-  sticky-walk (Ended i) h = refl
-  sticky-walk (OutOfRange i) h = refl
-  sticky-walk (TooManyFunctions i) h = refl
-  sticky-walk (LeftOver i) h = refl
+  sticky-walk c h = let (n, p, e) = refusal c h in rw e refl
 
   pub goes-walk : (c : Cursor) (i : ℕ) (w : Walk) → c ≡ Here i → w ≡ f ps i → w ≡ (walked (readOf c) ps next f)
   goes-walk c i w e h = rw e h

@@ -1,7 +1,8 @@
 -- The numbers and places of document 01 for what the readers of fields answer.
-use Prim.Native.Nat.{ℕ}
+use Prim.Native.Nat.{ℕ, _≤_}
+use lib.ListN.{length}
 use mathlib.Core.List.{List}
-use Rattle.lua51_deserializer.specs.Chunk.{Read, here, refused, _then_, field, string, constant}
+use Rattle.lua51_deserializer.specs.Chunk.{Read, here, refused, _then_, field, string, constant, most-bytes}
 use Rattle.lua51_deserializer.specs.declared.fields.Cursor.{Cursor}
 use Rattle.lua51_deserializer.specs.declared.fields.Cursor.the-variants.{Here, TooLong, HeaderDiffers, Ended, OutOfRange, TooManyFunctions, LeftOver}
 use Rattle.lua51_deserializer.specs.declared.fields.Element.{Element}
@@ -23,3 +24,13 @@ elementOf s Number = field s 4
 elementOf s Constant = constant s
 elementOf s Local = λ i. string s i then field s 4 then field s 4
 elementOf s Name = string s
+
+-- a reading that stands at most at n; of a refusal nothing is asked
+abbrev pub Bounded : ℕ → Read → Type 0
+Bounded n (here i) = i ≤ n
+Bounded n (refused k p) = 0 ≤ n
+
+-- a chunk that is not too long, and a reading of it that is not past its end
+pub record Inside (s : List ℕ) (r : Read) : Type 0 where
+  pub short : length s ≤ most-bytes
+  pub reached : Bounded (length s) r

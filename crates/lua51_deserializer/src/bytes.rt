@@ -3,6 +3,9 @@ ghost use mathlib.Core.Path.{_≡_};
 ghost use Prim.Native.Nat.{_+_, _<_};
 ghost use Rattle.lua51_deserializer.specs.Chunk.{byteAt, intAt};
 
+// How many values a byte has.
+const BYTE_VALUES: u32 = 256;
+
 // The byte `k` bytes behind offset `at`; 0 past the end.
 fn byte_behind(s: &[u8], at: usize, k: usize) -> u8
     ensures { λ r. ⌜ r ≡ byteAt (now (s .entry)) (at + k) ⌝ }
@@ -34,9 +37,9 @@ pub fn byte_at(s: &[u8], at: usize) -> u8
 pub fn int_at(s: &[u8], at: usize) -> u32
     ensures { λ r. ⌜ r ≡ intAt (now (s .entry)) at ⌝ }
 {
-    let lowest = wide(byte_behind(s, at, 0));
+    let lowest = wide(byte_at(s, at));
     let second = wide(byte_behind(s, at, 1));
     let third = wide(byte_behind(s, at, 2));
     let highest = wide(byte_behind(s, at, 3));
-    lowest + 256 * (second + 256 * (third + 256 * highest))
+    lowest + BYTE_VALUES * (second + BYTE_VALUES * (third + BYTE_VALUES * highest))
 }

@@ -2,6 +2,7 @@
 // is nested in; or refusals 1 to 6.
 use crate::bytes::byte_at;
 use crate::bytes::int_at;
+use crate::fields::BYTE_SIZE;
 use crate::fields::Cursor;
 use crate::fields::MOST;
 use crate::fields::code;
@@ -13,19 +14,21 @@ use crate::fields::locals;
 use crate::fields::names;
 use crate::fields::whole;
 ghost use mathlib.Core.Path.{_≡_};
-ghost use Prim.Native.Nat.{_<_};
-ghost use Rattle.lua51_deserializer.specs.Chunk.{refused, _then_, _next_, walked, countTo, most, exactly, signature, header, begin, finish, function, ends, walk};
-ghost use Rattle.lua51_deserializer.specs.Cursor.{readOf};
+ghost use Prim.Native.Nat.{_<_, _≤_};
+ghost use Rattle.lua51_deserializer.specs.Chunk.{refused, _then_, _next_, walked, countTo, most, most-bytes, exactly, signature, header, begin, finish, function, ends, walk};
+ghost use Rattle.lua51_deserializer.specs.Cursor.{readOf, Inside};
 ghost use Rattle.lua51_deserializer.specs.Walked.{walkOf, placesOf};
 
-// The functions that have begun, by number; 4,360 bytes.
+// The functions that have begun, by number; 2,312 bytes. The offsets are kept as u32, which hold every offset of a chunk that is
+// not too long: each level of the walk has three copies of the table on the stack.
 pub struct Functions {
-    // where each starts: 2,048 bytes
-    pub starts: [usize; 256],
-    // where what follows its nested functions starts: 2,048 bytes
-    pub tails: [usize; 256],
+    // where each starts: 1,024 bytes
+    pub starts: [u32; 256],
+    // where what follows its nested functions starts: 1,024 bytes
+    pub tails: [u32; 256],
     // the number of the function that it is nested in, 0 for main: 256 bytes, as no number is above 255
     pub parents: [u8; 256],
+    // how many have begun
     pub count: usize,
 }
 
@@ -35,12 +38,14 @@ pub struct Walked {
     pub functions: Functions,
 }
 
+// Limits: refusals 1 and 5.
 const MOST_BYTES: usize = 65536;
 
 const MOST_FUNCTIONS: usize = 256;
 
 const MOST_DEPTH: usize = 32;
 
+// What a chunk begins with.
 const HEADER_SIZE: usize = 12;
 
 const HEADER: [u8; 12] = [
@@ -65,8 +70,8 @@ fn exactly(s: &[u8], c: Cursor, b: u8) -> Cursor
     let Cursor::Here(at) = c else {
         return c;
     };
-    if whole(s, at, 1) {
-        let behind = at + 1;
+    if whole(s, at, BYTE_SIZE) {
+        let behind = at + BYTE_SIZE;
         if byte_at(s, at) != b {
             return Cursor::HeaderDiffers(at);
         }
@@ -102,13 +107,13 @@ fn too_many(at: usize, w: Walked) -> Walked
 // A function that is nested in function `parent` begins at offset `at`: it is placed, and all up to its nested functions is
 // read.
 fn begin(s: &[u8], at: usize, parent: u8, w: Walked) -> Walked
-    requires { ⌜ w .functions .count < 256 ⌝ }
+    requires { ⌜ (w .functions .count < 256) × (at ≤ most-bytes) ⌝ }
     ensures { λ r. ⌜ walkOf r ≡ begin (now (s .entry)) parent (placesOf (w .functions)) at ⌝ }
 {
     let mut placed = w.functions;
     let number = placed.count;
     let next = number + 1;
-    placed.starts[number] = at;
+    placed.starts[number] = at as u32;
     placed.tails[number] = 0;
     placed.parents[number] = parent;
     placed.count = next;
@@ -132,6 +137,7 @@ fn nested_count(s: &[u8], w: Walked) -> Walked
 
 // Function `me` ends: the rest of it is read.
 fn finish(s: &[u8], me: u8, w: Walked) -> Walked
+    requires { ⌜ Inside (now s) (readOf (w .cursor)) ⌝ }
     ensures { λ r. ⌜ walkOf r ≡ (walkOf w next finish (now (s .entry)) me) ⌝ }
 {
     let cursor = w.cursor;
@@ -140,7 +146,7 @@ fn finish(s: &[u8], me: u8, w: Walked) -> Walked
     };
     let number = me as usize;
     let mut ended = w.functions;
-    ended.tails[number] = at;
+    ended.tails[number] = at as u32;
     Walked {
         cursor: names(s, locals(s, lines(s, cursor))),
         functions: ended,
@@ -149,6 +155,7 @@ fn finish(s: &[u8], me: u8, w: Walked) -> Walked
 
 // A function with its nested functions, with `depth` levels left.
 fn function(s: &[u8], depth: usize, parent: u8, w: Walked) -> Walked
+    requires { ⌜ Inside (now s) (readOf (w .cursor)) ⌝ }
     ensures { λ r. ⌜ walkOf r ≡ (walkOf w next function (now (s .entry)) depth parent) ⌝ }
 {
     let cursor = w.cursor;

@@ -3,7 +3,6 @@
 use crate::bytes::byte_at;
 use crate::bytes::int_at;
 ghost use mathlib.Core.Path.{_≡_};
-ghost use mathlib.Core.Bool.{true, false};
 ghost use Prim.Native.Nat.{_+_};
 ghost use lib.Dec.{leb};
 ghost use lib.ListN.{length};
@@ -35,10 +34,14 @@ pub enum Element {
     Name,
 }
 
+// Sizes of fields.
+pub const BYTE_SIZE: usize = 1;
+
 const INT_SIZE: usize = 4;
 
 const NUMBER_SIZE: usize = 8;
 
+// Limits: refusal 4.
 const MOST_WORDS: u32 = 8192;
 
 pub const MOST: u32 = 65536;
@@ -47,6 +50,7 @@ const MOST_FLAGS: u32 = 7;
 
 const MOST_BOOLEAN: u32 = 1;
 
+// Kinds of constants.
 const KIND_NIL: u8 = 0;
 
 const KIND_BOOLEAN: u8 = 1;
@@ -101,7 +105,7 @@ pub fn byte_to(s: &[u8], c: Cursor, limit: u32) -> Cursor
     let Cursor::Here(at) = c else {
         return c;
     };
-    limited(s, c, 1, limit, byte_at(s, at) as u32)
+    limited(s, c, BYTE_SIZE, limit, byte_at(s, at) as u32)
 }
 
 // A count, or a string's size, that may not be above a limit.
@@ -125,7 +129,8 @@ pub fn body(s: &[u8], c: Cursor, size: usize) -> Cursor
         return Cursor::Here(at);
     }
     if whole(s, at, size) {
-        if byte_at(s, at + (size - 1)) != 0 {
+        let last = byte_at(s, at + (size - 1));
+        if last != 0 {
             return Cursor::OutOfRange(at);
         }
         return Cursor::Here(at + size);
@@ -238,10 +243,10 @@ pub fn head(s: &[u8], c: Cursor) -> Cursor
     let source = string(s, c);
     let first_line = field(s, source, INT_SIZE);
     let last_line = field(s, first_line, INT_SIZE);
-    let upvalues = field(s, last_line, 1);
-    let parameters = field(s, upvalues, 1);
+    let upvalues = field(s, last_line, BYTE_SIZE);
+    let parameters = field(s, upvalues, BYTE_SIZE);
     let flags = byte_to(s, parameters, MOST_FLAGS);
-    field(s, flags, 1)
+    field(s, flags, BYTE_SIZE)
 }
 
 // A function's words.

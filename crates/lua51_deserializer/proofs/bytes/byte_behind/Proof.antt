@@ -1,3 +1,4 @@
+-- `bytes::byte_behind` meets its contract. Assumes nothing.
 use mathlib.Core.Path.{sym}
 use Prim.Native.Nat.{_+_, _≤_}
 use native.Mathlib.Omega.{arith}
@@ -5,36 +6,28 @@ use borrow.Author.Needs.{needs}
 use lib.ListN.{length, List·getD-eq-default}
 use Rattle.lua51_deserializer.proofs.bytes.byte_behind.Statement.{statement}
 use Rattle.lua51_deserializer.proofs.bytes.byte_behind.Tie as tie
-use Rattle.lua51_deserializer.proofs.bytes.byte_behind.Reads as reads
-use Rattle.lua51_deserializer.proofs.bytes.byte_behind.Lts as lts
 
--- src/bytes.rt:11:9
 returns : tie.Need-returns
 returns c =
     let a = c .before .args in
     let h : length (a .s .now) ≤ a .at + a .k = omega arith in
     sym (List·getD-eq-default (a .s .now) 0 h)
 
--- src/bytes.rt:13:8
 sub-if2 : tie.Need-sub-if2
 sub-if2 c = search needs
 
--- src/bytes.rt:14:9
 returns-2 : tie.Need-returns-2
 returns-2 c =
     let a = c .before .before .args in
     let h : length (a .s .now) ≤ a .at + a .k = omega arith in
     sym (List·getD-eq-default (a .s .now) 0 h)
 
--- src/bytes.rt:16:7
 add-result : tie.Need-add-result
 add-result c = search needs
 
--- src/bytes.rt:16:5
 shared-slice-read-result : tie.Need-shared-slice-read-result
 shared-slice-read-result c = search needs
 
--- src/bytes.rt:7:1
 returns-3 : tie.Need-returns-3
 returns-3 c = search needs
 

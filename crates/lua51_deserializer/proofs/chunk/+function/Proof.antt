@@ -1,15 +1,17 @@
 -- `chunk::function` meets its contract. The measure is the depth that is left. The loop's invariant: what is left of the
--- nested functions gives what all of them give. Assumes nothing.
+-- nested functions gives what all of them give, and the reading is not past the end. Assumes nothing.
 use mathlib.Core.Path.{_≡_, sym, _∙_, ap}
 use mathlib.Core.List.{List}
 use Prim.Native.Nat.{ℕ, _+_, _-_, _≤_, _<_}
 use native.Mathlib.Omega.{arith}
 use borrow.Author.Needs.{needs}
 use lib.ListN.{length}
-use Rattle.lua51_deserializer.specs.Chunk.{Place, Walk, _next_, many, finish, function}
+use Rattle.lua51_deserializer.specs.Chunk.{countTo, Place, Walk, walked, _next_, many, finish, function, most}
+use Rattle.lua51_deserializer.specs.Cursor.{readOf, Inside}
 use Rattle.lua51_deserializer.specs.Walked.{placesOf, walkOf}
 use Rattle.lua51_deserializer.proofs.Places.{places-length}
 use Rattle.lua51_deserializer.proofs.Nesting.{sticky-walk, goes-walk, many-all, many-turn, many-none, nested, function-deep, function-full, function-stops, function-goes}
+use Rattle.lua51_deserializer.proofs.Bounds.{bounded-here, count-bounded, next-bounded, function-bounded, inside}
 use borrow.Fn.Kinds.{In}
 use borrow.Fn.PlainCycle.{Measures, is, falls, and}
 use Rattle.lua51_deserializer.proofs.chunk.function.Reads as function-reads
@@ -50,7 +52,7 @@ claims t = (
 
 abbrev Inv : lts.InvT-loop
 Inv s depth parent at count me w₀ nested n i₀ w i =
-    (i ≤ n) × ((walkOf w next many (function s (depth - 1) me) (n - i)) ≡ (walkOf w₀ next many (function s (depth - 1) me) n))
+    (i ≤ n) × Inside s (readOf (w .cursor)) × ((walkOf w next many (function s (depth - 1) me) (n - i)) ≡ (walkOf w₀ next many (function s (depth - 1) me) n))
 
 abbrev μ : lts.MeasureT-loop
 μ s depth parent at count me w₀ nested n i₀ w i = n - i
@@ -90,7 +92,7 @@ module _ (t : ℕ) where
       (a .w .functions .count) (places-length (a .w .functions)) (b .before .if2 .left)
       (b .begin .result .cursor) qs (b .begin .ensures) (h .behind .given .0 .0) v (h .behind .given .1)
       (e ∙ ap (λ (x : Walk). x next end l)
-      (l .loop .inv .1
+      (l .loop .inv .2
       ∙ nested (a .s .now) (child l) qs (h .behind .given .0 .0) (l .before .int-at .result) (walkOf (k .nested-count .result))
       (k .nested-count .ensures ∙ rw (h .behind .given .1)) (l .before .int-at .ensures))))
 
@@ -128,7 +130,10 @@ module _ (t : ℕ) where
   cast-me c = search needs
 
   begin-requires : lts.Need-begin-requires (claims t) (function-at t) function-reads.Post Inv μ
-  begin-requires c κs = search needs
+  begin-requires c κs =
+      let d = c .before .before .before in
+      let s = d .before .before .before in
+      (search needs, omega (arith, s .pre .1 .short, bounded-here (length (s .args .s .now)) (d .cursor .given .0 .0) (s .args .w .cursor) (d .cursor .given .1) (s .pre .1 .reached)))
 
   enum-known-behind : lts.Need-enum-known-behind (claims t) (function-at t) function-reads.Post Inv μ
   enum-known-behind c = search needs
@@ -152,14 +157,21 @@ module _ (t : ℕ) where
 
   loop-holds : lts.Need-loop-holds (claims t) (function-at t) function-reads.Post Inv μ
   loop-holds c =
-      let a = c .before .before .before .before .before .before .before .before .before .before .before .before .args in
-      (omega arith, many-all (function (a .s .now) (a .depth - 1) (a .w .functions .count)) (c .int-at .result) (walkOf (c .before .nested-count .result)))
+      let k = c .before in
+      let h = k .before .before in
+      let s = h .before .before .before .before .before .before .before .before .before in
+      let a = s .args in (
+        omega arith,
+        inside (a .s .now) (k .nested-count .result) (walked (countTo (a .s .now) most (h .behind .given .0 .0)) (placesOf (h .before .before .begin .result .functions)))
+            (k .nested-count .ensures ∙ rw (h .behind .given .1)) (s .pre .1 .short) (count-bounded (a .s .now) (h .behind .given .0 .0)),
+        many-all (function (a .s .now) (a .depth - 1) (a .w .functions .count)) (c .int-at .result) (walkOf (k .nested-count .result)),
+      )
 
   sub-function : lts.Need-sub-function (claims t) (function-at t) function-reads.Post Inv μ
   sub-function c = search needs
 
   function-requires : lts.Need-function-requires (claims t) (function-at t) function-reads.Post Inv μ
-  function-requires c κs = omega arith
+  function-requires c κs = (omega arith, c .before .loop .inv .1)
 
   enum-told : lts.Need-enum-told (claims t) (function-at t) function-reads.Post Inv μ
   enum-told c = search needs
@@ -187,12 +199,15 @@ module _ (t : ℕ) where
       let e = c .before .before in
       let l = e .before .before in (
         omega arith,
+        inside (entry l .args .s .now) (e .function .result) (walkOf (l .loop .walked) next child l) (e .function .ensures) (l .loop .inv .1 .short)
+            (next-bounded (entry l .args .s .now) (readOf (l .loop .walked .cursor)) (placesOf (l .loop .walked .functions)) (child l) (l .loop .inv .1 .reached)
+            (λ qs i h. function-bounded (entry l .args .s .now) (entry l .args .depth - 1) (entry l .args .w .functions .count) qs i)),
         many-turn (child l) (l .before .int-at .result) (l .loop .i) (walkOf (l .loop .walked)) (walkOf (e .function .result)) (e .before .loop-test .taken) (e .function .ensures)
-            ∙ l .loop .inv .1,
+            ∙ l .loop .inv .2,
       )
 
   finish-requires : lts.Need-finish-requires (claims t) (function-at t) function-reads.Post Inv μ
-  finish-requires c κs = search needs
+  finish-requires c κs = c .before .loop .inv .1
 
   returns-6 : lts.Need-returns-6 (claims t) (function-at t) function-reads.Post Inv μ
   returns-6 c =

@@ -1,3 +1,4 @@
+-- `chunk::begin` meets its contract. Assumes nothing.
 use mathlib.Core.Path.{_≡_, _∙_}
 use Prim.Native.Nat.{_<_}
 use native.Mathlib.Omega.{arith}
@@ -8,49 +9,37 @@ use Rattle.lua51_deserializer.proofs.Places.{placed}
 use Rattle.lua51_deserializer.proofs.Nesting.{walk-is}
 use Rattle.lua51_deserializer.proofs.chunk.begin.Statement.{statement}
 use Rattle.lua51_deserializer.proofs.chunk.begin.Tie as tie
-use Rattle.lua51_deserializer.proofs.chunk.begin.Reads as reads
-use Rattle.lua51_deserializer.proofs.chunk.begin.Lts as lts
-use Rattle.lua51_deserializer.proofs.fields.code.Reads as code-reads
-use Rattle.lua51_deserializer.proofs.fields.constants.Reads as constants-reads
-use Rattle.lua51_deserializer.proofs.fields.head.Reads as head-reads
 
--- src/chunk.rt:110:16
 add-next : tie.Need-add-next
 add-next c = search needs
 
--- src/chunk.rt:111:5
+cast-placed : tie.Need-cast-placed
+cast-placed c = search needs
+
 mul-placed : tie.Need-mul-placed
 mul-placed c = search needs
 
--- src/chunk.rt:111:5
 element-write-placed : tie.Need-element-write-placed
 element-write-placed c = search needs
 
--- src/chunk.rt:112:5
 mul-placed-2 : tie.Need-mul-placed-2
 mul-placed-2 c = search needs
 
--- src/chunk.rt:112:5
 element-write-placed-2 : tie.Need-element-write-placed-2
 element-write-placed-2 c = search needs
 
--- src/chunk.rt:113:5
 element-write-placed-3 : tie.Need-element-write-placed-3
 element-write-placed-3 c = search needs
 
--- src/chunk.rt:116:38
 head-requires : tie.Need-head-requires
 head-requires c κs = search needs
 
--- src/chunk.rt:116:30
 code-requires : tie.Need-code-requires
 code-requires c κs = search needs
 
--- src/chunk.rt:116:17
 constants-requires : tie.Need-constants-requires
 constants-requires c κs = search needs
 
--- src/chunk.rt:104:1
 returns : tie.Need-returns
 unfolding begin
 returns c =
@@ -70,6 +59,7 @@ begin-spec =
     tie.close
     (tie.spec
     add-next
+    cast-placed
     mul-placed
     element-write-placed
     mul-placed-2

@@ -1,26 +1,21 @@
+-- `chunk::ends` meets its contract. Assumes nothing.
 use borrow.Author.Needs.{needs}
 use borrow.Author.Tests.{lt-ltb, le-ltb}
 use Rattle.lua51_deserializer.specs.Chunk.{ends}
 use Rattle.lua51_deserializer.proofs.Cursor.{sticky, goes}
 use Rattle.lua51_deserializer.proofs.chunk.ends.Statement.{statement}
 use Rattle.lua51_deserializer.proofs.chunk.ends.Tie as tie
-use Rattle.lua51_deserializer.proofs.chunk.ends.Reads as reads
-use Rattle.lua51_deserializer.proofs.chunk.ends.Lts as lts
 
--- src/chunk.rt:149:22
 enum-known-c : tie.Need-enum-known-c
 enum-known-c c = search needs
 
--- src/chunk.rt:150:9
 returns : tie.Need-returns
 returns c = let a = c .before .args in sticky (a .c) (ends (a .s .now)) (c .match .keys2)
 
--- src/chunk.rt:153:9
 returns-2 : tie.Need-returns-2
 unfolding ends
 returns-2 c = goes _ _ _ _ (c .before .before .c .given .1) (rw (lt-ltb _ _ (c .if1 .taken)))
 
--- src/chunk.rt:146:1
 returns-3 : tie.Need-returns-3
 unfolding ends
 returns-3 c = goes _ _ _ _ (c .before .before .c .given .1) (rw (le-ltb _ _ (c .if1 .left)))

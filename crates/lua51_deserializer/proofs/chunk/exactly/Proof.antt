@@ -1,3 +1,4 @@
+-- `chunk::exactly` meets its contract. Assumes nothing.
 use mathlib.Core.Path.{sym, _∙_}
 use Prim.Native.Nat.{_+_}
 use native.Mathlib.Omega.{arith}
@@ -8,35 +9,25 @@ use Rattle.lua51_deserializer.specs.Chunk.{exactly}
 use Rattle.lua51_deserializer.proofs.Cursor.{sticky, goes, within}
 use Rattle.lua51_deserializer.proofs.chunk.exactly.Statement.{statement}
 use Rattle.lua51_deserializer.proofs.chunk.exactly.Tie as tie
-use Rattle.lua51_deserializer.proofs.chunk.exactly.Reads as reads
-use Rattle.lua51_deserializer.proofs.chunk.exactly.Lts as lts
-use Rattle.lua51_deserializer.proofs.bytes.byte_at.Reads as byte-at-reads
-use Rattle.lua51_deserializer.proofs.fields.whole.Reads as whole-reads
 
--- src/chunk.rt:65:22
 enum-known-c : tie.Need-enum-known-c
 enum-known-c c = search needs
 
--- src/chunk.rt:66:9
 returns : tie.Need-returns
 returns c = let a = c .before .before .args in sticky (a .c) (exactly (a .s .now) (a .b)) (c .match .keys2)
 
--- src/chunk.rt:68:8
 whole-requires : tie.Need-whole-requires
 whole-requires c κs = search needs
 
--- src/chunk.rt:69:22
 add-behind : tie.Need-add-behind
 add-behind c =
     let d = c .before .before .before in
     let a = d .before .before .before .args in
     omega (arith, within _ (d .c .given .0 .0 + 1) (length (a .s .now)) (c .before .whole .ensures) (c .if1 .taken))
 
--- src/chunk.rt:70:12
 byte-at-requires : tie.Need-byte-at-requires
 byte-at-requires c κs = search needs
 
--- src/chunk.rt:71:13
 returns-2 : tie.Need-returns-2
 unfolding exactly
 returns-2 c =
@@ -44,7 +35,6 @@ returns-2 c =
     goes _ _ _ _ (w .before .before .c .given .1)
     (rw (sym (w .whole .ensures) ∙ c .before .before .if1 .taken, sym (c .before .byte-at .ensures), ne-eqb _ _ (c .if2 .taken)))
 
--- src/chunk.rt:73:9
 returns-3 : tie.Need-returns-3
 unfolding exactly
 returns-3 c =
@@ -52,7 +42,6 @@ returns-3 c =
     goes _ _ _ _ (w .before .before .c .given .1)
     (rw (sym (w .whole .ensures) ∙ c .before .before .if1 .taken, sym (c .before .byte-at .ensures), eq-eqb _ _ (c .if2 .left)))
 
--- src/chunk.rt:62:1
 returns-4 : tie.Need-returns-4
 unfolding exactly
 returns-4 c =

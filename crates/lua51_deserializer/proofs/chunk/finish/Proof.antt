@@ -1,3 +1,4 @@
+-- `chunk::finish` meets its contract. Assumes nothing.
 use mathlib.Core.Path.{_≡_, sym, _∙_}
 use Prim.Native.Nat.{_<_}
 use native.Mathlib.Omega.{arith}
@@ -7,45 +8,39 @@ use Rattle.lua51_deserializer.specs.Chunk.{finish}
 use Rattle.lua51_deserializer.specs.Walked.{placesOf}
 use Rattle.lua51_deserializer.proofs.Places.{tailed}
 use Rattle.lua51_deserializer.proofs.Nesting.{sticky-walk, goes-walk, walk-is}
+use Rattle.lua51_deserializer.proofs.Bounds.{bounded-here}
 use Rattle.lua51_deserializer.proofs.chunk.finish.Statement.{statement}
 use Rattle.lua51_deserializer.proofs.chunk.finish.Tie as tie
-use Rattle.lua51_deserializer.proofs.chunk.finish.Reads as reads
-use Rattle.lua51_deserializer.proofs.chunk.finish.Lts as lts
-use Rattle.lua51_deserializer.proofs.fields.lines.Reads as lines-reads
-use Rattle.lua51_deserializer.proofs.fields.locals.Reads as locals-reads
-use Rattle.lua51_deserializer.proofs.fields.names.Reads as names-reads
 
--- src/chunk.rt:87:22
 enum-known-cursor : tie.Need-enum-known-cursor
 enum-known-cursor c = search needs
 
--- src/chunk.rt:88:9
 returns : tie.Need-returns
 returns c =
     let a = c .before .before .args in
     sticky-walk (placesOf (a .w .functions)) (finish (a .s .now) (a .me)) (a .w .cursor) (c .match .keys2)
 
--- src/chunk.rt:92:5
+cast-ended : tie.Need-cast-ended
+cast-ended c =
+    let d = c .before .before in
+    let s = d .before .before .before in
+    omega (arith, s .pre .short, bounded-here (length (s .args .s .now)) (d .cursor .given .0 .0) (s .args .w .cursor) (d .cursor .given .1) (s .pre .reached))
+
 mul-ended : tie.Need-mul-ended
 mul-ended c = search needs
 
--- src/chunk.rt:92:5
 element-write-ended : tie.Need-element-write-ended
 element-write-ended c = search needs
 
--- src/chunk.rt:94:36
 lines-requires : tie.Need-lines-requires
 lines-requires c κs = search needs
 
--- src/chunk.rt:94:26
 locals-requires : tie.Need-locals-requires
 locals-requires c κs = search needs
 
--- src/chunk.rt:94:17
 names-requires : tie.Need-names-requires
 names-requires c κs = search needs
 
--- src/chunk.rt:83:1
 returns-2 : tie.Need-returns-2
 unfolding finish
 returns-2 c =
@@ -63,6 +58,7 @@ finish-spec =
     (tie.spec
     enum-known-cursor
     returns
+    cast-ended
     mul-ended
     element-write-ended
     lines-requires

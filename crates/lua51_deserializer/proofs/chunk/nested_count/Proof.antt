@@ -1,17 +1,13 @@
+-- `chunk::nested_count` meets its contract. Assumes nothing.
 use mathlib.Core.Path.{refl}
 use borrow.Author.Needs.{needs}
 use Rattle.lua51_deserializer.proofs.Nesting.{walk-is}
 use Rattle.lua51_deserializer.proofs.chunk.nested_count.Statement.{statement}
 use Rattle.lua51_deserializer.proofs.chunk.nested_count.Tie as tie
-use Rattle.lua51_deserializer.proofs.chunk.nested_count.Reads as reads
-use Rattle.lua51_deserializer.proofs.chunk.nested_count.Lts as lts
-use Rattle.lua51_deserializer.proofs.fields.count_to.Reads as count-to-reads
 
--- src/chunk.rt:128:17
 count-to-requires : tie.Need-count-to-requires
 count-to-requires c κs = search needs
 
--- src/chunk.rt:122:1
 returns : tie.Need-returns
 returns c = walk-is (c .count-to .ensures) refl
 

@@ -1,3 +1,4 @@
+-- `chunk::signature` meets its contract. The loop's invariant: what is left gives what the whole gives. Assumes nothing.
 use mathlib.Core.Path.{_≡_, refl, sym, _∙_}
 use Prim.Native.Nat.{_-_, _≤_, _<_}
 use native.Mathlib.Omega.{arith}
@@ -8,9 +9,6 @@ use Rattle.lua51_deserializer.specs.Cursor.{readOf}
 use Rattle.lua51_deserializer.proofs.Cursor.{signature-turn, signature-none}
 use Rattle.lua51_deserializer.proofs.chunk.signature.Statement.{statement}
 use Rattle.lua51_deserializer.proofs.chunk.signature.Tie as tie
-use Rattle.lua51_deserializer.proofs.chunk.signature.Reads as reads
-use Rattle.lua51_deserializer.proofs.chunk.signature.Lts as lts
-use Rattle.lua51_deserializer.proofs.chunk.exactly.Reads as exactly-reads
 
 abbrev Inv-loop : tie.InvT-loop
 Inv-loop s read₀ i₀ read i = (i ≤ 12) × ((readOf read then signature s (drop i header)) ≡ signature s header 0)
@@ -18,27 +16,21 @@ Inv-loop s read₀ i₀ read i = (i ≤ 12) × ((readOf read then signature s (d
 abbrev μ-loop : tie.MeasureT-loop
 μ-loop s read₀ i₀ read i = 12 - i
 
--- src/chunk.rt:58:5
 loop-holds : tie.Need-loop-holds Inv-loop μ-loop
 loop-holds c = (omega arith, refl)
 
--- src/chunk.rt:59:33
 array-read-exactly : tie.Need-array-read-exactly Inv-loop μ-loop
 array-read-exactly c = search needs
 
--- src/chunk.rt:59:9
 exactly-requires : tie.Need-exactly-requires Inv-loop μ-loop
 exactly-requires c κs = search needs
 
--- src/chunk.rt:60:9
 add-i : tie.Need-add-i Inv-loop μ-loop
 add-i c = search needs
 
--- src/chunk.rt:58:5
 loop-less : tie.Need-loop-less Inv-loop μ-loop
 loop-less c = search needs
 
--- src/chunk.rt:58:5
 loop-again : tie.Need-loop-again Inv-loop μ-loop
 loop-again c =
     let l = c .before .before in
@@ -46,7 +38,6 @@ loop-again c =
     let h : l .loop .i < length header = omega arith in
     (omega arith, signature-turn s header (l .loop .i) (readOf (l .loop .read)) (readOf (c .exactly .result)) h (c .exactly .ensures) ∙ l .loop .inv .1)
 
--- src/chunk.rt:53:1
 returns : tie.Need-returns Inv-loop μ-loop
 returns c =
     let l = c .before in

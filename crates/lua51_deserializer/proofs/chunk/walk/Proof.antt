@@ -1,35 +1,29 @@
+-- `chunk::walk` meets its contract. Assumes nothing.
 use mathlib.Core.Path.{_∙_}
+use native.Mathlib.Omega.{arith}
 use borrow.Author.Needs.{needs}
+use Rattle.lua51_deserializer.specs.Chunk.{header}
 use Rattle.lua51_deserializer.specs.Cursor.{readOf}
 use Rattle.lua51_deserializer.specs.Walked.{walkOf}
 use Rattle.lua51_deserializer.specs.Range.{over}
 use Rattle.lua51_deserializer.proofs.Nesting.{walk-long, walk-whole}
+use Rattle.lua51_deserializer.proofs.Bounds.{signature-bounded}
 use Rattle.lua51_deserializer.proofs.chunk.walk.Statement.{statement}
 use Rattle.lua51_deserializer.proofs.chunk.walk.Tie as tie
-use Rattle.lua51_deserializer.proofs.chunk.walk.Reads as reads
-use Rattle.lua51_deserializer.proofs.chunk.walk.Lts as lts
-use Rattle.lua51_deserializer.proofs.chunk.ends.Reads as ends-reads
-use Rattle.lua51_deserializer.proofs.chunk.function.Reads as function-reads
-use Rattle.lua51_deserializer.proofs.chunk.signature.Reads as signature-reads
 
--- src/chunk.rt:209:9
 returns : tie.Need-returns
 unfolding over
 returns c = walk-long (c .before .before .args .s .now) (c .if1 .taken)
 
--- src/chunk.rt:215:17
 signature-requires : tie.Need-signature-requires
 signature-requires c κs = search needs
 
--- src/chunk.rt:218:9
 function-requires : tie.Need-function-requires
-function-requires c κs = search needs
+function-requires c κs = record { short = c .before .if1 .left; reached = rw (c .signature .ensures) (signature-bounded (c .before .before .before .args .s .now) header 0 (omega arith)) }
 
--- src/chunk.rt:222:17
 ends-requires : tie.Need-ends-requires
 ends-requires c κs = search needs
 
--- src/chunk.rt:199:1
 returns-2 : tie.Need-returns-2
 unfolding over
 returns-2 c =

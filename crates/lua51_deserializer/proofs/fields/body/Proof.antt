@@ -1,3 +1,4 @@
+-- `fields::body` meets its contract. Assumes nothing.
 use mathlib.Core.Path.{sym, _∙_}
 use Prim.Native.Nat.{_+_}
 use native.Mathlib.Omega.{arith}
@@ -8,44 +9,32 @@ use Rattle.lua51_deserializer.proofs.Cursor.{sticky, goes, within}
 use Rattle.lua51_deserializer.proofs.FieldCases.{body-short, body-open, body-ends}
 use Rattle.lua51_deserializer.proofs.fields.body.Statement.{statement}
 use Rattle.lua51_deserializer.proofs.fields.body.Tie as tie
-use Rattle.lua51_deserializer.proofs.fields.body.Reads as reads
-use Rattle.lua51_deserializer.proofs.fields.body.Lts as lts
-use Rattle.lua51_deserializer.proofs.bytes.byte_at.Reads as byte-at-reads
-use Rattle.lua51_deserializer.proofs.fields.whole.Reads as whole-reads
 
--- src/fields.rt:113:22
 enum-known-c : tie.Need-enum-known-c
 enum-known-c c = search needs
 
--- src/fields.rt:114:9
 returns : tie.Need-returns
 returns c = let a = c .before .before .args in sticky (a .c) (body (a .s .now) (a .size)) (c .match .keys2)
 
--- src/fields.rt:117:9
 returns-2 : tie.Need-returns-2
 unfolding body
 returns-2 c = goes _ _ _ _ (c .before .before .c .given .1) (rw (c .if1 .taken))
 
--- src/fields.rt:119:8
 whole-requires : tie.Need-whole-requires
 whole-requires c κs = search needs
 
--- src/fields.rt:120:29
 sub-byte-at : tie.Need-sub-byte-at
 sub-byte-at c = search needs
 
--- src/fields.rt:120:23
 add-byte-at : tie.Need-add-byte-at
 add-byte-at c =
     let d = c .before .before .before .before in
     let a = d .before .before .before .args in
     omega (arith, within _ (d .c .given .0 .0 + a .size) (length (a .s .now)) (c .before .whole .ensures) (c .if2 .taken))
 
--- src/fields.rt:120:12
 byte-at-requires : tie.Need-byte-at-requires
 byte-at-requires c κs = search needs
 
--- src/fields.rt:121:13
 returns-3 : tie.Need-returns-3
 returns-3 c =
     let w = c .before .before .before in
@@ -54,14 +43,12 @@ returns-3 c =
     goes _ _ _ _ (d .c .given .1)
     (body-open (a .s .now) (a .size) (d .c .given .0 .0) (w .before .if1 .left) (sym (w .whole .ensures) ∙ c .before .before .if2 .taken) (c .before .byte-at .ensures) (c .if3 .taken))
 
--- src/fields.rt:123:29
 add-t8 : tie.Need-add-t8
 add-t8 c =
     let d = c .before .before .before .before .before .before in
     let a = d .before .before .before .args in
     omega (arith, within _ (d .c .given .0 .0 + a .size) (length (a .s .now)) (c .before .before .before .whole .ensures) (c .before .before .if2 .taken))
 
--- src/fields.rt:123:9
 returns-4 : tie.Need-returns-4
 returns-4 c =
     let w = c .before .before .before in
@@ -70,7 +57,6 @@ returns-4 c =
     goes _ _ _ _ (d .c .given .1)
     (body-ends (a .s .now) (a .size) (d .c .given .0 .0) (w .before .if1 .left) (sym (w .whole .ensures) ∙ c .before .before .if2 .taken) (c .before .byte-at .ensures) (c .if3 .left))
 
--- src/fields.rt:110:1
 returns-5 : tie.Need-returns-5
 returns-5 c =
     let w = c .before in

@@ -1,35 +1,26 @@
+-- `fields::byte_to` meets its contract. Assumes nothing.
 use mathlib.Core.Path.{_∙_}
 use borrow.Author.Needs.{needs}
 use Rattle.lua51_deserializer.specs.Chunk.{byteTo}
 use Rattle.lua51_deserializer.proofs.Cursor.{sticky, goes}
 use Rattle.lua51_deserializer.proofs.fields.byte_to.Statement.{statement}
 use Rattle.lua51_deserializer.proofs.fields.byte_to.Tie as tie
-use Rattle.lua51_deserializer.proofs.fields.byte_to.Reads as reads
-use Rattle.lua51_deserializer.proofs.fields.byte_to.Lts as lts
-use Rattle.lua51_deserializer.proofs.bytes.byte_at.Reads as byte-at-reads
-use Rattle.lua51_deserializer.proofs.fields.limited.Reads as limited-reads
 
--- src/fields.rt:93:22
 enum-known-c : tie.Need-enum-known-c
 enum-known-c c = search needs
 
--- src/fields.rt:94:9
 returns : tie.Need-returns
 returns c = let a = c .before .before .args in sticky (a .c) (byteTo (a .s .now) (a .limit)) (c .match .keys2)
 
--- src/fields.rt:96:29
 byte-at-requires : tie.Need-byte-at-requires
 byte-at-requires c κs = search needs
 
--- src/fields.rt:96:29
 cast-limited : tie.Need-cast-limited
 cast-limited c = search needs
 
--- src/fields.rt:96:5
 limited-requires : tie.Need-limited-requires
 limited-requires c κs = search needs
 
--- src/fields.rt:90:1
 returns-2 : tie.Need-returns-2
 returns-2 c = goes _ _ _ _ (c .before .before .before .c .given .1) (c .limited .ensures ∙ rw (c .before .byte-at .ensures))
 

@@ -1,3 +1,4 @@
+-- `fields::constant` meets its contract. Assumes nothing.
 use mathlib.Core.Path.{sym, _∙_}
 use Prim.Native.Nat.{_+_, _<_}
 use native.Mathlib.Omega.{arith}
@@ -9,21 +10,13 @@ use Rattle.lua51_deserializer.proofs.Cursor.{sticky, goes}
 use Rattle.lua51_deserializer.proofs.FieldCases.{constant-nil, constant-boolean, constant-number, constant-string, constant-other}
 use Rattle.lua51_deserializer.proofs.fields.constant.Statement.{statement}
 use Rattle.lua51_deserializer.proofs.fields.constant.Tie as tie
-use Rattle.lua51_deserializer.proofs.fields.constant.Reads as reads
-use Rattle.lua51_deserializer.proofs.fields.constant.Lts as lts
-use Rattle.lua51_deserializer.proofs.fields.byte_to.Reads as byte-to-reads
-use Rattle.lua51_deserializer.proofs.fields.field.Reads as field-reads
-use Rattle.lua51_deserializer.proofs.fields.present.Reads as present-reads
 
--- src/fields.rt:158:22
 enum-known-c : tie.Need-enum-known-c
 enum-known-c c = search needs
 
--- src/fields.rt:159:9
 returns : tie.Need-returns
 returns c = let a = c .before .before .args in sticky (a .c) (constant (a .s .now)) (c .match .keys2)
 
--- src/fields.rt:162:9
 returns-2 : tie.Need-returns-2
 unfolding constant
 returns-2 c =
@@ -32,26 +25,21 @@ returns-2 c =
     let h : length (a .s .now) < d .c .given .0 .0 + 1 = omega arith in
     goes _ _ _ _ (d .c .given .1) (rw (lt-leb _ _ h))
 
--- src/fields.rt:164:16
 shared-slice-read-kind : tie.Need-shared-slice-read-kind
 shared-slice-read-kind c = search needs
 
--- src/fields.rt:165:31
 add-t6 : tie.Need-add-t6
 add-t6 c = search needs
 
--- src/fields.rt:167:9
 returns-3 : tie.Need-returns-3
 returns-3 c =
     let d = c .before .before .before .before in
     let a = d .before .before .before .args in
     goes _ _ _ _ (d .c .given .1) (constant-nil (a .s .now) (d .c .given .0 .0) (c .before .before .if1 .left) (c .if2 .taken))
 
--- src/fields.rt:170:9
 byte-to-requires : tie.Need-byte-to-requires
 byte-to-requires c κs = search needs
 
--- src/fields.rt:170:9
 returns-4 : tie.Need-returns-4
 returns-4 c =
     let m = c .before .before in
@@ -60,11 +48,9 @@ returns-4 c =
     goes _ _ _ _ (d .c .given .1)
     (c .byte-to .ensures ∙ sym (constant-boolean (a .s .now) (d .c .given .0 .0) (m .before .before .if1 .left) (c .before .if3 .taken)))
 
--- src/fields.rt:173:9
 field-requires : tie.Need-field-requires
 field-requires c κs = search needs
 
--- src/fields.rt:173:9
 returns-5 : tie.Need-returns-5
 returns-5 c =
     let m = c .before .before .before in
@@ -73,11 +59,9 @@ returns-5 c =
     goes _ _ _ _ (d .c .given .1)
     (c .field .ensures ∙ sym (constant-number (a .s .now) (d .c .given .0 .0) (m .before .before .if1 .left) (c .before .if4 .taken)))
 
--- src/fields.rt:176:9
 present-requires : tie.Need-present-requires
 present-requires c κs = search needs
 
--- src/fields.rt:176:9
 returns-6 : tie.Need-returns-6
 returns-6 c =
     let m = c .before .before .before .before in
@@ -86,7 +70,6 @@ returns-6 c =
     goes _ _ _ _ (d .c .given .1)
     (c .present .ensures ∙ sym (constant-string (a .s .now) (d .c .given .0 .0) (m .before .before .if1 .left) (c .before .if5 .taken)))
 
--- src/fields.rt:155:1
 returns-7 : tie.Need-returns-7
 returns-7 c =
     let m = c .before .before .before in

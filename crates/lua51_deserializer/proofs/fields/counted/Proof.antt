@@ -1,3 +1,4 @@
+-- `fields::counted` meets its contract. Assumes nothing.
 use mathlib.Core.Path.{_∙_}
 use borrow.Author.Needs.{needs}
 use Rattle.lua51_deserializer.specs.Chunk.{counted}
@@ -5,33 +6,22 @@ use Rattle.lua51_deserializer.specs.Cursor.{elementOf}
 use Rattle.lua51_deserializer.proofs.Cursor.{sticky, goes}
 use Rattle.lua51_deserializer.proofs.fields.counted.Statement.{statement}
 use Rattle.lua51_deserializer.proofs.fields.counted.Tie as tie
-use Rattle.lua51_deserializer.proofs.fields.counted.Reads as reads
-use Rattle.lua51_deserializer.proofs.fields.counted.Lts as lts
-use Rattle.lua51_deserializer.proofs.bytes.int_at.Reads as int-at-reads
-use Rattle.lua51_deserializer.proofs.fields.count_to.Reads as count-to-reads
-use Rattle.lua51_deserializer.proofs.fields.elements.Reads as elements-reads
 
--- src/fields.rt:220:22
 enum-known-c : tie.Need-enum-known-c
 enum-known-c c = search needs
 
--- src/fields.rt:221:9
 returns : tie.Need-returns
 returns c = let a = c .before .before .args in sticky (a .c) (counted (a .s .now) (a .limit) (elementOf (a .s .now) (a .of))) (c .match .keys2)
 
--- src/fields.rt:223:17
 count-to-requires : tie.Need-count-to-requires
 count-to-requires c κs = search needs
 
--- src/fields.rt:223:44
 int-at-requires : tie.Need-int-at-requires
 int-at-requires c κs = search needs
 
--- src/fields.rt:223:5
 elements-requires : tie.Need-elements-requires
 elements-requires c κs = search needs
 
--- src/fields.rt:217:1
 returns-2 : tie.Need-returns-2
 unfolding counted
 returns-2 c =

@@ -1,3 +1,4 @@
+-- `fields::elements` meets its contract. The loop's invariant: what is left gives what the whole gives. Assumes nothing.
 use mathlib.Core.Path.{_≡_, sym, _∙_}
 use Prim.Native.Nat.{_+_, _-_, _≤_}
 use native.Mathlib.Omega.{arith}
@@ -7,9 +8,6 @@ use Rattle.lua51_deserializer.specs.Cursor.{readOf, elementOf}
 use Rattle.lua51_deserializer.proofs.Cursor.{sticky, again-all, again-turn, again-none}
 use Rattle.lua51_deserializer.proofs.fields.elements.Statement.{statement}
 use Rattle.lua51_deserializer.proofs.fields.elements.Tie as tie
-use Rattle.lua51_deserializer.proofs.fields.elements.Reads as reads
-use Rattle.lua51_deserializer.proofs.fields.elements.Lts as lts
-use Rattle.lua51_deserializer.proofs.fields.next_element.Reads as next-element-reads
 
 abbrev Inv-loop : tie.InvT-loop
 Inv-loop s of n read₀ i₀ read i =
@@ -18,18 +16,15 @@ Inv-loop s of n read₀ i₀ read i =
 abbrev μ-loop : tie.MeasureT-loop
 μ-loop s of n read₀ i₀ read i = n - i
 
--- src/fields.rt:206:5
 loop-holds : tie.Need-loop-holds Inv-loop μ-loop
 loop-holds c = let a = c .before .args in (omega arith, again-all (elementOf (a .s .now) (a .of)) (a .n) (readOf (a .c)))
 
--- src/fields.rt:207:9
 next-element-requires : tie.Need-next-element-requires Inv-loop μ-loop
 next-element-requires c κs = search needs
 
 enum-told : tie.Need-enum-told Inv-loop μ-loop
 enum-told c = search needs
 
--- src/fields.rt:209:13
 returns : tie.Need-returns Inv-loop μ-loop
 returns c =
     let l = c .before .before .before in
@@ -37,15 +32,12 @@ returns c =
     sticky (c .before .next-element .result) (again (elementOf (a .s .now) (a .of)) (a .n - (l .loop .i + 1))) (c .match .keys2)
     ∙ (again-turn (elementOf (a .s .now) (a .of)) (a .n) (l .loop .i) (readOf (l .loop .read)) (readOf (c .before .next-element .result)) (c .before .before .loop-test .taken) (c .before .next-element .ensures) ∙ l .loop .inv .1)
 
--- src/fields.rt:211:9
 add-i : tie.Need-add-i Inv-loop μ-loop
 add-i c = search needs
 
--- src/fields.rt:206:5
 loop-less : tie.Need-loop-less Inv-loop μ-loop
 loop-less c = search needs
 
--- src/fields.rt:206:5
 loop-again : tie.Need-loop-again Inv-loop μ-loop
 loop-again c =
     let e = c .before .before in
@@ -53,7 +45,6 @@ loop-again c =
     let a = l .before .before .args in
     (omega arith, again-turn (elementOf (a .s .now) (a .of)) (a .n) (l .loop .i) (readOf (l .loop .read)) (readOf (e .next-element .result)) (e .before .loop-test .taken) (e .next-element .ensures) ∙ l .loop .inv .1)
 
--- src/fields.rt:201:1
 returns-2 : tie.Need-returns-2 Inv-loop μ-loop
 returns-2 c =
     let l = c .before in

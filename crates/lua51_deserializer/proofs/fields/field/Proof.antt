@@ -1,3 +1,4 @@
+-- `fields::field` meets its contract. Assumes nothing.
 use mathlib.Core.Path.{sym, _∙_}
 use Prim.Native.Nat.{_+_}
 use native.Mathlib.Omega.{arith}
@@ -7,35 +8,26 @@ use Rattle.lua51_deserializer.specs.Chunk.{field}
 use Rattle.lua51_deserializer.proofs.Cursor.{sticky, goes, within}
 use Rattle.lua51_deserializer.proofs.fields.field.Statement.{statement}
 use Rattle.lua51_deserializer.proofs.fields.field.Tie as tie
-use Rattle.lua51_deserializer.proofs.fields.field.Reads as reads
-use Rattle.lua51_deserializer.proofs.fields.field.Lts as lts
-use Rattle.lua51_deserializer.proofs.fields.whole.Reads as whole-reads
 
--- src/fields.rt:64:22
 enum-known-c : tie.Need-enum-known-c
 enum-known-c c = search needs
 
--- src/fields.rt:65:9
 returns : tie.Need-returns
 returns c = let a = c .before .before .args in sticky (a .c) (field (a .s .now) (a .size)) (c .match .keys2)
 
--- src/fields.rt:67:8
 whole-requires : tie.Need-whole-requires
 whole-requires c κs = search needs
 
--- src/fields.rt:68:29
 add-t6 : tie.Need-add-t6
 add-t6 c =
     let d = c .before .before .before in
     let a = d .before .before .before .args in
     omega (arith, within _ (d .c .given .0 .0 + a .size) (length (a .s .now)) (c .before .whole .ensures) (c .if1 .taken))
 
--- src/fields.rt:68:9
 returns-2 : tie.Need-returns-2
 unfolding field
 returns-2 c = goes _ _ _ _ (c .before .before .before .c .given .1) (rw (sym (c .before .whole .ensures) ∙ c .if1 .taken))
 
--- src/fields.rt:61:1
 returns-3 : tie.Need-returns-3
 unfolding field
 returns-3 c = goes _ _ _ _ (c .before .before .before .c .given .1) (rw (sym (c .before .whole .ensures) ∙ c .if1 .left))

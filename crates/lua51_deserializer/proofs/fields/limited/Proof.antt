@@ -1,3 +1,4 @@
+-- `fields::limited` meets its contract. Assumes nothing.
 use mathlib.Core.Path.{sym, _∙_}
 use Prim.Native.Nat.{_+_}
 use native.Mathlib.Omega.{arith}
@@ -8,44 +9,34 @@ use Rattle.lua51_deserializer.specs.Chunk.{limited}
 use Rattle.lua51_deserializer.proofs.Cursor.{sticky, goes, within}
 use Rattle.lua51_deserializer.proofs.fields.limited.Statement.{statement}
 use Rattle.lua51_deserializer.proofs.fields.limited.Tie as tie
-use Rattle.lua51_deserializer.proofs.fields.limited.Reads as reads
-use Rattle.lua51_deserializer.proofs.fields.limited.Lts as lts
-use Rattle.lua51_deserializer.proofs.fields.whole.Reads as whole-reads
 
--- src/fields.rt:77:22
 enum-known-c : tie.Need-enum-known-c
 enum-known-c c = search needs
 
--- src/fields.rt:78:9
 returns : tie.Need-returns
 returns c = let a = c .before .before .args in sticky (a .c) (limited (a .s .now) (a .size) (a .limit) (a .value)) (c .match .keys2)
 
--- src/fields.rt:80:8
 whole-requires : tie.Need-whole-requires
 whole-requires c κs = search needs
 
--- src/fields.rt:82:13
 returns-2 : tie.Need-returns-2
 unfolding limited
 returns-2 c =
     goes _ _ _ _ (c .before .before .before .before .c .given .1)
     (rw (sym (c .before .before .whole .ensures) ∙ c .before .if1 .taken, lt-leb _ _ (c .if2 .taken)))
 
--- src/fields.rt:84:29
 add-t9 : tie.Need-add-t9
 add-t9 c =
     let d = c .before .before .before .before in
     let a = d .before .before .before .args in
     omega (arith, within _ (d .c .given .0 .0 + a .size) (length (a .s .now)) (c .before .before .whole .ensures) (c .before .if1 .taken))
 
--- src/fields.rt:84:9
 returns-3 : tie.Need-returns-3
 unfolding limited
 returns-3 c =
     goes _ _ _ _ (c .before .before .before .before .c .given .1)
     (rw (sym (c .before .before .whole .ensures) ∙ c .before .if1 .taken, le-leb _ _ (c .if2 .left)))
 
--- src/fields.rt:74:1
 returns-4 : tie.Need-returns-4
 unfolding limited
 returns-4 c =

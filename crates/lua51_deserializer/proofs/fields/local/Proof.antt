@@ -1,27 +1,20 @@
+-- `fields::local` meets its contract. Assumes nothing.
 use mathlib.Core.Path.{sym, _∙_}
 use borrow.Author.Needs.{needs}
 use Rattle.lua51_deserializer.specs.Cursor.{readOf}
 use Rattle.lua51_deserializer.proofs.FieldCases.{local-row}
 use Rattle.lua51_deserializer.proofs.fields.local.Statement.{statement}
 use Rattle.lua51_deserializer.proofs.fields.local.Tie as tie
-use Rattle.lua51_deserializer.proofs.fields.local.Reads as reads
-use Rattle.lua51_deserializer.proofs.fields.local.Lts as lts
-use Rattle.lua51_deserializer.proofs.fields.field.Reads as field-reads
-use Rattle.lua51_deserializer.proofs.fields.string.Reads as string-reads
 
--- src/fields.rt:185:23
 string-requires : tie.Need-string-requires
 string-requires c κs = search needs
 
--- src/fields.rt:185:14
 field-requires : tie.Need-field-requires
 field-requires c κs = search needs
 
--- src/fields.rt:185:5
 field-requires-2 : tie.Need-field-requires-2
 field-requires-2 c κs = search needs
 
--- src/fields.rt:182:1
 returns : tie.Need-returns
 returns c =
     let a = c .before .before .before .before .args in

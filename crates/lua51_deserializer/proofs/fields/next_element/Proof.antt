@@ -1,58 +1,41 @@
+-- `fields::next_element` meets its contract. Assumes nothing.
 use borrow.Author.Needs.{needs}
 use Rattle.lua51_deserializer.proofs.fields.next_element.Statement.{statement}
 use Rattle.lua51_deserializer.proofs.fields.next_element.Tie as tie
-use Rattle.lua51_deserializer.proofs.fields.next_element.Reads as reads
-use Rattle.lua51_deserializer.proofs.fields.next_element.Lts as lts
-use Rattle.lua51_deserializer.proofs.fields.constant.Reads as constant-reads
-use Rattle.lua51_deserializer.proofs.fields.field.Reads as field-reads
-use Rattle.lua51_deserializer.proofs.fields.local.Reads as local-reads
-use Rattle.lua51_deserializer.proofs.fields.string.Reads as string-reads
 
--- src/fields.rt:191:28
 enum-told : tie.Need-enum-told
 enum-told c = search needs
 
--- src/fields.rt:191:28
 field-requires : tie.Need-field-requires
 field-requires c κs = search needs
 
--- src/fields.rt:192:30
 enum-told-2 : tie.Need-enum-told-2
 enum-told-2 c = search needs
 
--- src/fields.rt:192:30
 constant-requires : tie.Need-constant-requires
 constant-requires c κs = search needs
 
--- src/fields.rt:193:27
 enum-told-3 : tie.Need-enum-told-3
 enum-told-3 c = search needs
 
--- src/fields.rt:193:27
 local-requires : tie.Need-local-requires
 local-requires c κs = search needs
 
--- src/fields.rt:194:26
 enum-told-4 : tie.Need-enum-told-4
 enum-told-4 c = search needs
 
--- src/fields.rt:194:26
 string-requires : tie.Need-string-requires
 string-requires c κs = search needs
 
--- src/fields.rt:187:1
 returns : tie.Need-returns
 returns c = rw (c .before .enum-told .given .1) (c .field .ensures)
 
--- src/fields.rt:187:1
 returns-2 : tie.Need-returns-2
 returns-2 c = rw (c .before .enum-told2 .given .1) (c .constant .ensures)
 
--- src/fields.rt:187:1
 returns-3 : tie.Need-returns-3
 returns-3 c = rw (c .before .enum-told3 .given .1) (c .local .ensures)
 
--- src/fields.rt:187:1
 returns-4 : tie.Need-returns-4
 returns-4 c = rw (c .before .enum-told4 .given .1) (c .string .ensures)
 

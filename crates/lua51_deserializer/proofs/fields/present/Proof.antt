@@ -1,3 +1,4 @@
+-- `fields::present` meets its contract. Assumes nothing.
 use mathlib.Core.Path.{sym, _∙_}
 use borrow.Author.Needs.{needs}
 use borrow.Author.Tests.{eq-eqb, ne-eqb}
@@ -5,40 +6,28 @@ use Rattle.lua51_deserializer.specs.Chunk.{present}
 use Rattle.lua51_deserializer.proofs.Cursor.{sticky, goes}
 use Rattle.lua51_deserializer.proofs.fields.present.Statement.{statement}
 use Rattle.lua51_deserializer.proofs.fields.present.Tie as tie
-use Rattle.lua51_deserializer.proofs.fields.present.Reads as reads
-use Rattle.lua51_deserializer.proofs.fields.present.Lts as lts
-use Rattle.lua51_deserializer.proofs.bytes.int_at.Reads as int-at-reads
-use Rattle.lua51_deserializer.proofs.fields.string.Reads as string-reads
-use Rattle.lua51_deserializer.proofs.fields.whole.Reads as whole-reads
 
--- src/fields.rt:142:22
 enum-known-c : tie.Need-enum-known-c
 enum-known-c c = search needs
 
--- src/fields.rt:143:9
 returns : tie.Need-returns
 returns c = let a = c .before .before .args in sticky (a .c) (present (a .s .now)) (c .match .keys2)
 
--- src/fields.rt:145:8
 whole-requires : tie.Need-whole-requires
 whole-requires c κs = search needs
 
--- src/fields.rt:146:12
 int-at-requires : tie.Need-int-at-requires
 int-at-requires c κs = search needs
 
--- src/fields.rt:147:13
 returns-2 : tie.Need-returns-2
 unfolding present
 returns-2 c =
     goes _ _ _ _ (c .before .before .before .before .before .c .given .1)
     (rw (sym (c .before .before .before .whole .ensures) ∙ c .before .before .if1 .taken, eq-eqb _ _ (sym (c .before .int-at .ensures) ∙ c .if2 .taken)))
 
--- src/fields.rt:149:9
 string-requires : tie.Need-string-requires
 string-requires c κs = search needs
 
--- src/fields.rt:149:9
 returns-3 : tie.Need-returns-3
 unfolding present
 returns-3 c =
@@ -46,7 +35,6 @@ returns-3 c =
     goes _ _ _ _ (w .before .before .c .given .1)
     (rw (sym (w .whole .ensures) ∙ c .before .before .before .if1 .taken, sym (c .before .before .int-at .ensures), ne-eqb _ _ (c .before .if2 .left)) (c .string .ensures))
 
--- src/fields.rt:139:1
 returns-4 : tie.Need-returns-4
 unfolding present
 returns-4 c =

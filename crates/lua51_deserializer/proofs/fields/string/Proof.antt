@@ -1,40 +1,29 @@
+-- `fields::string` meets its contract. Assumes nothing.
 use mathlib.Core.Path.{_∙_}
 use borrow.Author.Needs.{needs}
 use Rattle.lua51_deserializer.specs.Chunk.{string}
 use Rattle.lua51_deserializer.proofs.Cursor.{sticky, goes}
 use Rattle.lua51_deserializer.proofs.fields.string.Statement.{statement}
 use Rattle.lua51_deserializer.proofs.fields.string.Tie as tie
-use Rattle.lua51_deserializer.proofs.fields.string.Reads as reads
-use Rattle.lua51_deserializer.proofs.fields.string.Lts as lts
-use Rattle.lua51_deserializer.proofs.bytes.int_at.Reads as int-at-reads
-use Rattle.lua51_deserializer.proofs.fields.body.Reads as body-reads
-use Rattle.lua51_deserializer.proofs.fields.count_to.Reads as count-to-reads
 
--- src/fields.rt:132:22
 enum-known-c : tie.Need-enum-known-c
 enum-known-c c = search needs
 
--- src/fields.rt:133:9
 returns : tie.Need-returns
 returns c = let a = c .before .before .args in sticky (a .c) (string (a .s .now)) (c .match .keys2)
 
--- src/fields.rt:135:13
 count-to-requires : tie.Need-count-to-requires
 count-to-requires c κs = search needs
 
--- src/fields.rt:135:35
 int-at-requires : tie.Need-int-at-requires
 int-at-requires c κs = search needs
 
--- src/fields.rt:135:35
 cast-body : tie.Need-cast-body
 cast-body c = search needs
 
--- src/fields.rt:135:5
 body-requires : tie.Need-body-requires
 body-requires c κs = search needs
 
--- src/fields.rt:129:1
 returns-2 : tie.Need-returns-2
 unfolding string
 returns-2 c =
