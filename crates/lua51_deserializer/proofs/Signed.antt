@@ -13,12 +13,11 @@ use mir.Val.{SFits, toZ, ofZ}
 use mir.ValLaws.{toZ-ofZ}
 use Rattle.lua51_deserializer.proofs.Tests.{clash}
 
-module _ (a b : ℕ) where
-  pub sub-ge : b ≤ a → subℕ a b ≡ pos (a - b)
-  sub-ge h = rw (le-ltb a b h)
+pub sub-ge : (a b : ℕ) → b ≤ a → subℕ a b ≡ pos (a - b)
+sub-ge a b h = rw (le-ltb a b h)
 
-  pub sub-lt : a < b → subℕ a b ≡ negsuc (b - suc a)
-  sub-lt h = rw (lt-ltb a b h)
+sub-lt : (a b : ℕ) → a < b → subℕ a b ≡ negsuc (b - suc a)
+sub-lt a b h = rw (lt-ltb a b h)
 
 module _ (a b : ℕ) where
   pub fits : a < 2 ^ 31 → b ≤ 2 ^ 31 → SFits w32 (subℕ a b)

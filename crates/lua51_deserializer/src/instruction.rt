@@ -80,7 +80,8 @@ pub enum Target {
     Outside,
 }
 
-// The target of the jump that is word i of n words.
+// The target of the jump that is word i of n words. Below 0, sBx leads back from the word itself, else on from the next
+// word; the target is tested against 0 and n before it is made.
 pub fn jump_target(i: usize, n: usize, word: u32) -> Target
     ensures { λ r. ⌜ r ≡ targetOf i n word ⌝ }
 {

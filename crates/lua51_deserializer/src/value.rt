@@ -31,6 +31,16 @@ pub enum Constant {
     String { at: usize, len: usize },
 }
 
+// How far behind a constant's kind its content starts, and a string's bytes, which follow its size.
+const CONTENT_FROM: usize = 1;
+
+const TEXT_FROM: usize = 5;
+
+// A pattern's higher half: how many bytes stand before it, and how much 1 in it is worth.
+const HIGH_FROM: usize = 4;
+
+const HIGH_WORTH: u64 = 1 << 32;
+
 // The place k bytes behind an offset, or the end of the bytes where that comes first.
 fn place_after(s: &[u8], at: usize, k: usize) -> usize
     ensures { λ r. ⌜ r ≡ within (now (s .entry)) (at + k) ⌝ }
@@ -56,8 +66,8 @@ pub fn pattern_at(s: &[u8], at: usize) -> u64
     ensures { λ r. ⌜ r ≡ patternAt (now (s .entry)) at ⌝ }
 {
     let low = wide(int_at(s, at));
-    let high = wide(int_at(s, place_after(s, at, 4)));
-    low + 4294967296 * high
+    let high = wide(int_at(s, place_after(s, at, HIGH_FROM)));
+    low + HIGH_WORTH * high
 }
 
 // The number that 64 bits stand for.
@@ -80,7 +90,8 @@ fn text_length(size: u32) -> usize
     (size - 1) as usize
 }
 
-// The constant whose kind stands at an offset.
+// The constant whose kind stands at an offset. Where none was read there, it is what the bytes at hand give: a boolean
+// above 1 is true, and a kind that is not listed is read as a string's.
 pub fn constant_at(s: &[u8], at: usize) -> Constant
     ensures { λ r. ⌜ Reads (now (s .entry)) at r ⌝ }
 {
@@ -88,7 +99,7 @@ pub fn constant_at(s: &[u8], at: usize) -> Constant
     if kind == KIND_NIL {
         return Constant::Nil;
     }
-    let content = place_after(s, at, 1);
+    let content = place_after(s, at, CONTENT_FROM);
     if kind == KIND_BOOLEAN {
         return Constant::Boolean(byte_at(s, content) != 0);
     }
@@ -96,7 +107,7 @@ pub fn constant_at(s: &[u8], at: usize) -> Constant
         return number(pattern_at(s, content));
     }
     Constant::String {
-        at: place_after(s, at, 5),
+        at: place_after(s, at, TEXT_FROM),
         len: text_length(int_at(s, content)),
     }
 }

@@ -1,10 +1,10 @@
 -- `instruction::sbx_of`: Bx has 18 bits, so the difference fits an i32. Assumes nothing.
 use Prim.Native.Nat.{_<_, _^_}
 use native.Mathlib.Omega.{arith}
-use mathlib.Core.Path.{_≡_, _∙_, ap}
+use mathlib.Core.Path.{_≡_, _∙_, ap, subst, sym}
 use lib.IntN.{ℤ, pos, subℕ, _-ℤ_}
 use mir.Syntax.{w32}
-use mir.Val.{toZ, ofZ}
+use mir.Val.{SFits, toZ, ofZ}
 use mir.ValLaws.{toZ-pos}
 use borrow.Author.Needs.{needs}
 use Rattle.lua51_deserializer.specs.Word.{fieldBx, bias}
@@ -31,7 +31,9 @@ difference : (c : Known) → toZ w32 (c .bx-of .result) -ℤ pos bias ≡ subℕ
 difference c = rw (c .bx-of .ensures, toZ-pos w32 (fieldBx (c .before .args .word)) (small c))
 
 sub-result : tie.Need-sub-result
-sub-result c = rw (difference c) (fits (fieldBx (c .before .args .word)) bias (small c) (omega arith))
+sub-result c =
+    subst (SFits w32) (sym (difference c))
+    (fits (fieldBx (c .before .args .word)) bias (small c) (omega arith))
 
 returns : tie.Need-returns
 returns c =
