@@ -7,7 +7,11 @@ use native.Mathlib.Omega.{arith}
 use borrow.Author.Tests.{leb-true}
 use lib.Dec.{leb, ltb, eqb}
 use lib.ListN.{length}
-use Rattle.lua51_deserializer.specs.Chunk.{Read, here, refused, _then_, again, byteAt, intAt, field, limited, byteTo, countTo, counted, body, string, present, constantOf, constant, head, code, constants, lines, locals, names, Place, Walk, walked, _next_, many, begin, nest, finish, function, exactly, signature, most, most-words, most-flags, most-functions, most-bytes, whole}
+use Rattle.lua51_deserializer.specs.Chunk.{Read, here, refused, _then_, again, byteAt, intAt, field, limited}
+use Rattle.lua51_deserializer.specs.Chunk.{byteTo, countTo, counted, body, string, present, constantOf, constant}
+use Rattle.lua51_deserializer.specs.Chunk.{head, code, constants, lines, locals, names, Place, Walk, walked}
+use Rattle.lua51_deserializer.specs.Chunk.{_next_, many, begin, nest, finish, function, exactly, signature, most}
+use Rattle.lua51_deserializer.specs.Chunk.{most-words, most-flags, most-functions, most-bytes, whole}
 use Rattle.lua51_deserializer.specs.Cursor.{readOf, Bounded, Inside}
 use Rattle.lua51_deserializer.specs.Walked.{walkOf}
 use Rattle.lua51_deserializer.specs.declared.fields.Cursor.{Cursor}
@@ -17,7 +21,8 @@ use Rattle.lua51_deserializer.specs.declared.chunk.Walked.{Walked}
 pub bounded-here : (n i : ℕ) (c : Cursor) → c ≡ Here i → Bounded n (readOf c) → i ≤ n
 bounded-here n i c e h = rw e at h
 
-then-bounded : (n : ℕ) (r : Read) (f : ℕ → Read) → Bounded n r → ((i : ℕ) → i ≤ n → Bounded n (f i)) → Bounded n (r then f)
+then-bounded : (n : ℕ) (r : Read) (f : ℕ → Read) → Bounded n r → ((i : ℕ) → i ≤ n → Bounded n (f i))
+    → Bounded n (r then f)
 then-bounded n (here i) f h g = g i h
 then-bounded n (refused k p) f h g = h
 
@@ -44,12 +49,14 @@ module _ (s : List ℕ) where
   body-bounded (suc k) i h =
       whole-bounded (suc k) i _ (λ l. cond-bounded (length s) (eqb (byteAt s (i + k)) 0) (here (i + suc k)) (refused 4 i) (λ e. l) (omega arith))
 
-  again-bounded : (f : ℕ → Read) → ((i : ℕ) → Bounded (length s) (f i)) → (k i : ℕ) → i ≤ length s → Bounded (length s) (again f k i)
+  again-bounded : (f : ℕ → Read) → ((i : ℕ) → Bounded (length s) (f i)) → (k i : ℕ) → i ≤ length s
+      → Bounded (length s) (again f k i)
   unfolding again
   again-bounded f g zero i h = h
   again-bounded f g (suc k) i h = then-bounded (length s) (f i) (again f k) (g i) (λ j l. again-bounded f g k j l)
 
-  counted-bounded : (limit : ℕ) (f : ℕ → Read) → ((i : ℕ) → Bounded (length s) (f i)) → (i : ℕ) → Bounded (length s) (counted s limit f i)
+  counted-bounded : (limit : ℕ) (f : ℕ → Read) → ((i : ℕ) → Bounded (length s) (f i)) → (i : ℕ)
+      → Bounded (length s) (counted s limit f i)
   unfolding counted
   counted-bounded limit f g i = then-bounded (length s) (countTo s limit i) (again f (intAt s i)) (limited-bounded 4 limit (intAt s i) i) (λ j l. again-bounded f g (intAt s i) j l)
 
@@ -113,30 +120,35 @@ module _ (s : List ℕ) where
 
   -- ------------------------------------------------------------ the walk
 
-  pub next-bounded : (r : Read) (ps : List Place) (f : List Place → ℕ → Walk) → Bounded (length s) r → ((qs : List Place) (i : ℕ) → i ≤ length s → Bounded (length s) (f qs i .read))
+  pub next-bounded : (r : Read) (ps : List Place) (f : List Place → ℕ → Walk) → Bounded (length s) r
+      → ((qs : List Place) (i : ℕ) → i ≤ length s → Bounded (length s) (f qs i .read))
       → Bounded (length s) ((walked r ps next f) .read)
   next-bounded (here i) ps f h g = g ps i h
   next-bounded (refused n p) ps f h g = h
 
-  many-bounded : (f : List Place → ℕ → Walk) → ((qs : List Place) (i : ℕ) → i ≤ length s → Bounded (length s) (f qs i .read))
+  many-bounded : (f : List Place → ℕ → Walk)
+      → ((qs : List Place) (i : ℕ) → i ≤ length s → Bounded (length s) (f qs i .read))
       → (k : ℕ) (ps : List Place) (i : ℕ) → i ≤ length s → Bounded (length s) (many f k ps i .read)
   unfolding many
   many-bounded f g zero ps i h = h
   many-bounded f g (suc k) ps i h = next-bounded (f ps i .read) (f ps i .places) (many f k) (g ps i h) (λ qs j l. many-bounded f g k qs j l)
 
-  nest-bounded : (f : List Place → ℕ → Walk) → ((qs : List Place) (i : ℕ) → i ≤ length s → Bounded (length s) (f qs i .read))
+  nest-bounded : (f : List Place → ℕ → Walk)
+      → ((qs : List Place) (i : ℕ) → i ≤ length s → Bounded (length s) (f qs i .read))
       → (ps : List Place) (i : ℕ) → Bounded (length s) (nest s f ps i .read)
   unfolding nest
   nest-bounded f g ps i =
       next-bounded (countTo s most i) ps (many f (intAt s i)) (limited-bounded 4 most (intAt s i) i) (λ qs k l. many-bounded f g (intAt s i) qs k l)
 
-  pub function-bounded : (depth parent : ℕ) (ps : List Place) (i : ℕ) → Bounded (length s) (function s depth parent ps i .read)
+  pub function-bounded : (depth parent : ℕ) (ps : List Place) (i : ℕ)
+      → Bounded (length s) (function s depth parent ps i .read)
   unfolding function
   function-bounded zero parent ps i = omega arith
   function-bounded (suc depth) parent ps i =
       one (ltb (length ps) most-functions) (λ qs j. nest-bounded (function s depth (length ps)) (λ rs k l. function-bounded depth (length ps) rs k) qs j)
     where
-      one : (b : Bool) → ((qs : List Place) (j : ℕ) → Bounded (length s) (nest s (function s depth (length ps)) qs j .read))
+      one : (b : Bool)
+          → ((qs : List Place) (j : ℕ) → Bounded (length s) (nest s (function s depth (length ps)) qs j .read))
           → Bounded (length s) (cond b (begin s parent ps i next nest s (function s depth (length ps)) next finish s (length ps)) (walked (refused 5 i) ps) .read)
       one true g =
           let b = begin s parent ps i in
@@ -147,5 +159,6 @@ module _ (s : List ℕ) where
       one false g = omega arith
 
   -- what is known of a walk that the code has
-  pub inside : (w : Walked) (v : Walk) → walkOf w ≡ v → length s ≤ most-bytes → Bounded (length s) (v .read) → Inside s (readOf (w .cursor))
+  pub inside : (w : Walked) (v : Walk) → walkOf w ≡ v → length s ≤ most-bytes → Bounded (length s) (v .read)
+      → Inside s (readOf (w .cursor))
   inside w v e short h = record { short = short; reached = subst (λ (x : Walk). Bounded (length s) (x .read)) (sym e) h }

@@ -10,10 +10,12 @@ use lib.ListN.{take, length}
 use lib.Ieee.{binary64, nanBits, ofBits}
 use lib.Ieee.Bits.{nanBits-is, toBits-ofBits}
 use borrow.Author.Tests.{eq-eqb, ne-eqb, leb-true}
-use Rattle.lua51_deserializer.specs.Chunk.{here, refused, byteAt, intAt, kind-nil, kind-boolean, kind-number, constant, constantOf, limited, valueAt}
+use Rattle.lua51_deserializer.specs.Chunk.{here, refused, byteAt, intAt, kind-nil, kind-boolean, kind-number}
+use Rattle.lua51_deserializer.specs.Chunk.{constant, constantOf, limited, valueAt}
 use Rattle.lua51_deserializer.specs.Chunk as chunk
 use Rattle.lua51_deserializer.specs.Constant.{patternAt, numberOf, patternOf, valueOf, within, constantAt, Reads}
-use Rattle.lua51_deserializer.specs.declared.value.Constant.the-variants.{Nil, Boolean, Number, NotANumber, String}
+use Rattle.lua51_deserializer.specs.declared.value.Constant.the-variants.{Nil, Boolean, Number, NotANumber}
+use Rattle.lua51_deserializer.specs.declared.value.Constant.the-variants.{String}
 use Rattle.lua51_deserializer.proofs.Ends.{drop-within}
 
 -- ------------------------------------------------------------ numbers
@@ -32,7 +34,8 @@ number-value : (s : List ℕ) (n : ℕ) → valueOf s (numberOf n) ≡ chunk.Num
 unfolding numberOf valueOf patternOf
 number-value s n = go (nanBits binary64 n)
   where
-    go : (b : Bool) → valueOf s (cond b (NotANumber n) (Number (ofBits binary64 n))) ≡ chunk.Number (patternOf (cond b (NotANumber n) (Number (ofBits binary64 n))))
+    go : (b : Bool)
+        → valueOf s (cond b (NotANumber n) (Number (ofBits binary64 n))) ≡ chunk.Number (patternOf (cond b (NotANumber n) (Number (ofBits binary64 n))))
     go true = refl
     go false = refl
 
@@ -45,7 +48,9 @@ boolean-small s i j k r =
     leb-true (byteAt s (i + 1)) 1
     (go (leb (i + 1) (length s)) (leb (i + 1 + 1) (length s)) (leb (byteAt s (i + 1)) 1) (rw k at r))
   where
-    go : (a b t : Bool) → cond a (cond b (cond t (here (i + 1 + 1)) (refused 4 (i + 1))) (refused 3 (i + 1))) (refused 3 i) ≡ here j → t ≡ true
+    go : (a b t : Bool)
+        → cond a (cond b (cond t (here (i + 1 + 1)) (refused 4 (i + 1))) (refused 3 (i + 1))) (refused 3 i) ≡ here j
+        → t ≡ true
     go true true true e = refl
     go true true false e = let z : _≡_ {A = ℕ} 0 1 = cc in absurd (omega arith)
     go true false t e = let z : _≡_ {A = ℕ} 0 1 = cc in absurd (omega arith)
@@ -73,7 +78,8 @@ module _ (s : List ℕ) (i : ℕ) where
     meaning = λ j r. rw k (ap chunk.Boolean (boolean-kept (byteAt s (i + 1)) (boolean-small s i j k r)));
   }
 
-  pub reads-number : byteAt s i ≡ kind-number → patternAt s (i + 1) < 2 ^ 64 → Reads s i (numberOf (patternAt s (i + 1)))
+  pub reads-number : byteAt s i ≡ kind-number → patternAt s (i + 1) < 2 ^ 64
+      → Reads s i (numberOf (patternAt s (i + 1)))
   unfolding constantAt valueAt patternAt
   reads-number k h =
       let e : i + 1 + 4 ≡ i + 5 = omega arith in

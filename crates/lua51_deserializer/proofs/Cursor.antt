@@ -15,7 +15,8 @@ use denote.Enum.Declared.{tagOf}
 use Rattle.lua51_deserializer.specs.Chunk.{Read, here, refused, _then_, again, exactly, signature}
 use Rattle.lua51_deserializer.specs.Cursor.{readOf}
 use Rattle.lua51_deserializer.specs.declared.fields.Cursor.{Cursor}
-use Rattle.lua51_deserializer.specs.declared.fields.Cursor.the-variants.{Here, TooLong, HeaderDiffers, Ended, OutOfRange, TooManyFunctions, LeftOver}
+use Rattle.lua51_deserializer.specs.declared.fields.Cursor.the-variants.{Here, TooLong, HeaderDiffers, Ended}
+use Rattle.lua51_deserializer.specs.declared.fields.Cursor.the-variants.{OutOfRange, TooManyFunctions, LeftOver}
 use Rattle.lua51_deserializer.proofs.Tests.{either-way}
 use Rattle.lua51_deserializer.proofs.fields.Cursor.{the-type}
 
@@ -64,7 +65,8 @@ module _ (f : ℕ → Read) (n : ℕ) where
   again-all r = rw (sub-zero n)
 
   -- one turn of a loop of n turns, the i-th
-  pub again-turn : (i : ℕ) (r q : Read) → i < n → q ≡ (r then f) → (q then again f (n - (i + 1))) ≡ (r then again f (n - i))
+  pub again-turn : (i : ℕ) (r q : Read) → i < n → q ≡ (r then f)
+      → (q then again f (n - (i + 1))) ≡ (r then again f (n - i))
   unfolding again
   again-turn i r q h e =
       let d : n - i ≡ suc (n - (i + 1)) = omega arith in
@@ -78,7 +80,8 @@ module _ (f : ℕ → Read) (n : ℕ) where
 
 module _ (s bs : List ℕ) (i : ℕ) where
   -- its i-th byte
-  pub signature-turn : (r q : Read) → i < length bs → q ≡ (r then exactly s (getD bs i 0)) → (q then signature s (drop (i + 1) bs)) ≡ (r then signature s (drop i bs))
+  pub signature-turn : (r q : Read) → i < length bs → q ≡ (r then exactly s (getD bs i 0))
+      → (q then signature s (drop (i + 1) bs)) ≡ (r then signature s (drop i bs))
   unfolding signature
   signature-turn r q h e = rw (e, drop-cons bs i 0 h, add-one i) (sym (in-turn r (exactly s (getD bs i 0)) (signature s (drop (suc i) bs))))
 

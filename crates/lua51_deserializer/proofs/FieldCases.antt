@@ -7,7 +7,8 @@ use native.Mathlib.Omega.{arith}
 use borrow.Author.Tests.{le-leb, eq-eqb, ne-eqb}
 use lib.Dec.{leb}
 use lib.ListN.{length}
-use Rattle.lua51_deserializer.specs.Chunk.{Read, here, refused, _then_, byteAt, field, byteTo, body, string, present, constantOf, constant, head, most-flags}
+use Rattle.lua51_deserializer.specs.Chunk.{Read, here, refused, _then_, byteAt, field, byteTo, body, string}
+use Rattle.lua51_deserializer.specs.Chunk.{present, constantOf, constant, head, most-flags}
 use Rattle.lua51_deserializer.specs.Cursor.{elementOf}
 use Rattle.lua51_deserializer.specs.declared.fields.Element.the-variants.{Local}
 
@@ -58,13 +59,15 @@ module _ (s : List ℕ) (i : ℕ) (some : i < length s) where
   unfolding constantOf
   constant-string h = of-kind 4 h
 
-  pub constant-other : (byteAt s i ≡ 0 → ⊥) → (byteAt s i ≡ 1 → ⊥) → (byteAt s i ≡ 3 → ⊥) → (byteAt s i ≡ 4 → ⊥) → constant s i ≡ refused 4 i
+  pub constant-other : (byteAt s i ≡ 0 → ⊥) → (byteAt s i ≡ 1 → ⊥) → (byteAt s i ≡ 3 → ⊥) → (byteAt s i ≡ 4 → ⊥)
+      → constant s i ≡ refused 4 i
   unfolding constantOf
   constant-other a b c d = kind-read ∙ rw (ne-eqb _ _ a, ne-eqb _ _ b, ne-eqb _ _ c, ne-eqb _ _ d)
 
 -- ------------------------------------------------------------ fields in a row
 
-pub head-row : (s : List ℕ) (r : Read) → (r then head s) ≡ (r then string s then field s 4 then field s 4 then field s 1 then field s 1 then byteTo s most-flags then field s 1)
+pub head-row : (s : List ℕ) (r : Read)
+    → (r then head s) ≡ (r then string s then field s 4 then field s 4 then field s 1 then field s 1 then byteTo s most-flags then field s 1)
 unfolding head
 head-row s (here i) = refl
 head-row s (refused n p) = refl

@@ -9,7 +9,9 @@ use borrow.Author.Tests.{lt-ltb, le-ltb}
 use lib.ListN.{length}
 use types.Run.{OneOf}
 use denote.Enum.Declared.{tagOf}
-use Rattle.lua51_deserializer.specs.Chunk.{Read, here, refused, _then_, intAt, countTo, Place, Walk, walked, _next_, many, begin, nest, finish, function, header, signature, ends, walk, most}
+use Rattle.lua51_deserializer.specs.Chunk.{Read, here, refused, _then_, intAt, countTo, Place, Walk, walked}
+use Rattle.lua51_deserializer.specs.Chunk.{_next_, many, begin, nest, finish, function, header, signature, ends}
+use Rattle.lua51_deserializer.specs.Chunk.{walk, most}
 use Rattle.lua51_deserializer.specs.Cursor.{readOf}
 use Rattle.lua51_deserializer.specs.declared.fields.Cursor.{Cursor}
 use Rattle.lua51_deserializer.specs.declared.fields.Cursor.the-variants.{Here}
@@ -17,14 +19,16 @@ use Rattle.lua51_deserializer.proofs.Cursor.{refusals, refusal}
 use Rattle.lua51_deserializer.proofs.fields.Cursor.{the-type}
 
 module _ (ps : List Place) (f : List Place → ℕ → Walk) where
-  pub sticky-walk : (c : Cursor) → OneOf refusals (tagOf the-type c) → walked (readOf c) ps ≡ (walked (readOf c) ps next f)
+  pub sticky-walk : (c : Cursor) → OneOf refusals (tagOf the-type c)
+      → walked (readOf c) ps ≡ (walked (readOf c) ps next f)
   sticky-walk c h = let (n, p, e) = refusal c h in rw e refl
 
   pub goes-walk : (c : Cursor) (i : ℕ) (w : Walk) → c ≡ Here i → w ≡ f ps i → w ≡ (walked (readOf c) ps next f)
   goes-walk c i w e h = rw e h
 
 -- two in turn
-next-turn : (r : Read) (ps : List Place) (f g : List Place → ℕ → Walk) → (walked r ps next (λ qs i. f qs i next g)) ≡ (walked r ps next f next g)
+next-turn : (r : Read) (ps : List Place) (f g : List Place → ℕ → Walk)
+    → (walked r ps next (λ qs i. f qs i next g)) ≡ (walked r ps next f next g)
 next-turn (here i) ps f g = refl
 next-turn (refused n p) ps f g = refl
 
@@ -35,7 +39,8 @@ module _ (f : List Place → ℕ → Walk) (n : ℕ) where
   many-all w = rw (sub-zero n)
 
   -- one turn of a loop of n turns, the i-th
-  pub many-turn : (i : ℕ) (w v : Walk) → i < n → v ≡ (w next f) → (v next many f (n - (i + 1))) ≡ (w next many f (n - i))
+  pub many-turn : (i : ℕ) (w v : Walk) → i < n → v ≡ (w next f)
+      → (v next many f (n - (i + 1))) ≡ (w next many f (n - i))
   unfolding many
   many-turn i w v h e =
       let d : n - i ≡ suc (n - (i + 1)) = omega arith in
@@ -55,7 +60,8 @@ pub walk-is : {q r : Read} {ps qs : List Place} → q ≡ r → ps ≡ qs → wa
 walk-is e d = λ i. walked (e i) (d i)
 
 -- the count of nested functions, and then each of them
-pub nested : (s : List ℕ) (f : List Place → ℕ → Walk) (ps : List Place) (i n : ℕ) (w : Walk) → w ≡ walked (countTo s most i) ps → n ≡ intAt s i
+pub nested : (s : List ℕ) (f : List Place → ℕ → Walk) (ps : List Place) (i n : ℕ) (w : Walk)
+    → w ≡ walked (countTo s most i) ps → n ≡ intAt s i
     → (w next many f n) ≡ nest s f ps i
 unfolding nest
 nested s f ps i n w e d = rw (e, d)
@@ -82,7 +88,8 @@ module _ (s : List ℕ) (depth parent : ℕ) (ps : List Place) (i : ℕ) where
       pub function-stops : OneOf refusals (tagOf the-type c) → walked (readOf c) qs ≡ function s depth parent ps i
       function-stops h = rw (step, ← sticky-walk qs (nest s (function s (depth - 1) me)) c h) (sticky-walk qs (finish s me) c h)
 
-      pub function-goes : (j : ℕ) (w : Walk) → c ≡ Here j → w ≡ (nest s (function s (depth - 1) me) qs j next finish s me) → w ≡ function s depth parent ps i
+      pub function-goes : (j : ℕ) (w : Walk) → c ≡ Here j
+          → w ≡ (nest s (function s (depth - 1) me) qs j next finish s me) → w ≡ function s depth parent ps i
       function-goes j w e h = h ∙ sym (step ∙ rw e)
 
 -- ------------------------------------------------------------ the whole chunk
@@ -92,7 +99,8 @@ module _ (s : List ℕ) where
   unfolding walk
   walk-long h = sym (rw (lt-ltb 65536 (length s) h))
 
-  pub walk-whole : (w : Walk) (r : Read) → length s ≤ 65536 → w ≡ (walked (signature s header 0) [] next function s 32 0) → r ≡ (w .read then ends s)
+  pub walk-whole : (w : Walk) (r : Read) → length s ≤ 65536
+      → w ≡ (walked (signature s header 0) [] next function s 32 0) → r ≡ (w .read then ends s)
       → walked r (w .places) ≡ walk s
   unfolding walk
   walk-whole w r h e d = rw (d, e) (sym (rw (le-ltb 65536 (length s) h)))

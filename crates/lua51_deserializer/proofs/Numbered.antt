@@ -1,8 +1,12 @@
 -- A kind and a flow come back from their numbers. Assumes nothing.
 use mathlib.Core.Path.{_≡_, refl}
-use Rattle.lua51_deserializer.specs.Word.{Kind, unused, register, either, upvalue, flag, constant, global, nested, offset, pair, quartet, last-from-A, last-from-B, arguments, values, varargs, elements, variables, block-number}
-use Rattle.lua51_deserializer.specs.Word.{Flow, straight, skip, jump, test, test-set, loop-entry, numeric-loop, generic-loop, exit}
-use Rattle.lua51_deserializer.specs.Instruction.{kindMeant, kindNumbered, kindNumber, flowMeant, flowNumbered, flowNumber}
+use Rattle.lua51_deserializer.specs.Word.{Kind, unused, register, either, upvalue, flag, constant, global, nested}
+use Rattle.lua51_deserializer.specs.Word.{offset, pair, quartet, last-from-A, last-from-B, arguments, values}
+use Rattle.lua51_deserializer.specs.Word.{varargs, elements, variables, block-number}
+use Rattle.lua51_deserializer.specs.Word.{Flow, straight, skip, jump, test, test-set, loop-entry, numeric-loop}
+use Rattle.lua51_deserializer.specs.Word.{generic-loop, exit}
+use Rattle.lua51_deserializer.specs.Instruction.{kindMeant, kindNumbered, kindNumber, flowMeant, flowNumbered}
+use Rattle.lua51_deserializer.specs.Instruction.{flowNumber}
 
 pub kind-back : (k : Kind) → kindMeant (kindNumbered (kindNumber k)) ≡ k
 kind-back unused = refl

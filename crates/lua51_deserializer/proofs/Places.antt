@@ -23,7 +23,8 @@ module _ {A : Type 0} where
   over-at f from (suc k) zero d h = ap f (omega arith)
   over-at f from (suc k) (suc m) d h = over-at f (from + 1) k m d (omega arith) ∙ ap f (omega arith)
 
-  pub over-same : (f g : ℕ → A) (from k : ℕ) → ((j : ℕ) → j < k → f (from + j) ≡ g (from + j)) → over (λ j. only (f j)) from k ≡ over (λ j. only (g j)) from k
+  pub over-same : (f g : ℕ → A) (from k : ℕ) → ((j : ℕ) → j < k → f (from + j) ≡ g (from + j))
+      → over (λ j. only (f j)) from k ≡ over (λ j. only (g j)) from k
   unfolding over
   over-same f g from zero h = refl
   over-same f g from (suc k) h =

@@ -6,7 +6,11 @@ use denote.Enum.Declared.{tagOf}
 use types.Run.{OneOf, miss}
 use Rattle.lua51_deserializer.specs.declared.instruction.Kind.{Kind}
 use Rattle.lua51_deserializer.proofs.instruction.Kind.{the-type}
-use Rattle.lua51_deserializer.specs.declared.instruction.Kind.the-variants.{Unused, Register, Either, Upvalue, Flag, Constant, Global, Nested, Offset, Pair, Quartet, LastFromA, LastFromB, Arguments, Values, Varargs, Elements, Variables, BlockNumber}
+use Rattle.lua51_deserializer.specs.declared.instruction.Kind.the-variants.{Unused, Register, Either, Upvalue}
+use Rattle.lua51_deserializer.specs.declared.instruction.Kind.the-variants.{Flag, Constant, Global, Nested}
+use Rattle.lua51_deserializer.specs.declared.instruction.Kind.the-variants.{Offset, Pair, Quartet, LastFromA}
+use Rattle.lua51_deserializer.specs.declared.instruction.Kind.the-variants.{LastFromB, Arguments, Values, Varargs}
+use Rattle.lua51_deserializer.specs.declared.instruction.Kind.the-variants.{Elements, Variables, BlockNumber}
 use Rattle.lua51_deserializer.specs.Argument.{run, registersBy, registersOf}
 
 -- their numbers

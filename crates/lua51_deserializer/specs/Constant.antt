@@ -7,10 +7,12 @@ use lib.Dec.{ltb, eqb}
 use lib.ListN.{length, take, drop}
 use lib.Ieee.{binary64, ofBits, toBits, nanBits}
 use Rattle.lua51_deserializer.specs.Word.{bits}
-use Rattle.lua51_deserializer.specs.Chunk.{Value, byteAt, intAt, kind-nil, kind-boolean, kind-number, here, constant, valueAt}
+use Rattle.lua51_deserializer.specs.Chunk.{Value, byteAt, intAt, kind-nil, kind-boolean, kind-number, here}
+use Rattle.lua51_deserializer.specs.Chunk.{constant, valueAt}
 use Rattle.lua51_deserializer.specs.Chunk as chunk
 use Rattle.lua51_deserializer.specs.declared.value.Constant.{Constant}
-use Rattle.lua51_deserializer.specs.declared.value.Constant.the-variants.{Nil, Boolean, Number, NotANumber, String}
+use Rattle.lua51_deserializer.specs.declared.value.Constant.the-variants.{Nil, Boolean, Number, NotANumber}
+use Rattle.lua51_deserializer.specs.declared.value.Constant.the-variants.{String}
 use Rattle.lua51_deserializer.specs.declared.value.Pieces.{Pieces}
 
 -- ------------------------------------------------------------ numbers

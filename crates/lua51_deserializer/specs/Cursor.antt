@@ -4,7 +4,8 @@ use lib.ListN.{length}
 use mathlib.Core.List.{List}
 use Rattle.lua51_deserializer.specs.Chunk.{Read, here, refused, _then_, field, string, constant, most-bytes}
 use Rattle.lua51_deserializer.specs.declared.fields.Cursor.{Cursor}
-use Rattle.lua51_deserializer.specs.declared.fields.Cursor.the-variants.{Here, TooLong, HeaderDiffers, Ended, OutOfRange, TooManyFunctions, LeftOver}
+use Rattle.lua51_deserializer.specs.declared.fields.Cursor.the-variants.{Here, TooLong, HeaderDiffers, Ended}
+use Rattle.lua51_deserializer.specs.declared.fields.Cursor.the-variants.{OutOfRange, TooManyFunctions, LeftOver}
 use Rattle.lua51_deserializer.specs.declared.fields.Element.{Element}
 use Rattle.lua51_deserializer.specs.declared.fields.Element.the-variants.{Number, Constant, Local, Name}
 

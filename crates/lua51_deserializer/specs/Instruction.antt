@@ -7,14 +7,23 @@ use mathlib.Core.Path.{_≡_}
 use lib.Dec.{leb, ltb}
 use lib.ListN.{getD}
 use lib.IntN.{ℤ, pos, _-ℤ_}
-use Rattle.lua51_deserializer.specs.Word.{unused, register, either, upvalue, flag, constant, global, nested, offset, pair, quartet, last-from-A, last-from-B, arguments, values, varargs, elements, variables, block-number}
-use Rattle.lua51_deserializer.specs.Word.{straight, skip, jump, test, test-set, loop-entry, numeric-loop, generic-loop, exit}
+use Rattle.lua51_deserializer.specs.Word.{unused, register, either, upvalue, flag, constant, global, nested}
+use Rattle.lua51_deserializer.specs.Word.{offset, pair, quartet, last-from-A, last-from-B, arguments, values}
+use Rattle.lua51_deserializer.specs.Word.{varargs, elements, variables, block-number}
+use Rattle.lua51_deserializer.specs.Word.{straight, skip, jump, test, test-set, loop-entry, numeric-loop}
+use Rattle.lua51_deserializer.specs.Word.{generic-loop, exit}
 use Rattle.lua51_deserializer.specs.Word.{rowOf, fieldOpcode, fieldA, fieldB, fieldC, fieldBx, bias}
 use Rattle.lua51_deserializer.specs.Word as word
 use Rattle.lua51_deserializer.specs.declared.instruction.Kind.{Kind}
-use Rattle.lua51_deserializer.specs.declared.instruction.Kind.the-variants.{Unused, Register, Either, Upvalue, Flag, Constant, Global, Nested, Offset, Pair, Quartet, LastFromA, LastFromB, Arguments, Values, Varargs, Elements, Variables, BlockNumber}
+use Rattle.lua51_deserializer.specs.declared.instruction.Kind.the-variants.{Unused, Register, Either, Upvalue}
+use Rattle.lua51_deserializer.specs.declared.instruction.Kind.the-variants.{Flag, Constant, Global, Nested}
+use Rattle.lua51_deserializer.specs.declared.instruction.Kind.the-variants.{Offset, Pair, Quartet, LastFromA}
+use Rattle.lua51_deserializer.specs.declared.instruction.Kind.the-variants.{LastFromB, Arguments, Values, Varargs}
+use Rattle.lua51_deserializer.specs.declared.instruction.Kind.the-variants.{Elements, Variables, BlockNumber}
 use Rattle.lua51_deserializer.specs.declared.instruction.Flow.{Flow}
-use Rattle.lua51_deserializer.specs.declared.instruction.Flow.the-variants.{Straight, Skip, Jump, Test, TestSet, LoopEntry, NumericLoop, GenericLoop, Exit}
+use Rattle.lua51_deserializer.specs.declared.instruction.Flow.the-variants.{Straight, Skip, Jump, Test, TestSet}
+use Rattle.lua51_deserializer.specs.declared.instruction.Flow.the-variants.{LoopEntry, NumericLoop, GenericLoop}
+use Rattle.lua51_deserializer.specs.declared.instruction.Flow.the-variants.{Exit}
 use Rattle.lua51_deserializer.specs.declared.instruction.Entry.{Entry}
 use Rattle.lua51_deserializer.specs.declared.instruction.Row.{Row}
 use Rattle.lua51_deserializer.specs.declared.instruction.Instruction.{Instruction}
