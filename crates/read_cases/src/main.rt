@@ -1,0 +1,202 @@
+// Runs recorded chunks through the walk and holds its answers to the records of data/cases, whose form README.md gives. Writes
+// how many agree and how many differ, and the index of the first that differs.
+use lua51_deserializer::bytes::int_at;
+use lua51_deserializer::chunk::Functions;
+use lua51_deserializer::chunk::Walked;
+use lua51_deserializer::chunk::walk;
+use lua51_deserializer::fields::Cursor;
+ghost use Prim.Native.Nat.{_<_, _^_};
+ghost use Rattle.io.specs.Counts.{Counts};
+
+// What comes of reading one record.
+enum Outcome {
+    Agrees,
+    Differs,
+    End,
+}
+
+// A refusal's number and place; both 0 where there is none.
+struct Refusal {
+    number: u32,
+    place: usize,
+}
+
+// A record begins with seven numbers of four bytes, at these offsets; the last three, of the judgement, are passed over here.
+const HEAD_SIZE: usize = 28;
+
+const LENGTH: usize = 0;
+
+const NUMBER: usize = 4;
+
+const PLACE: usize = 8;
+
+const COUNT: usize = 12;
+
+// Then come three numbers for each function, at these offsets.
+const FUNCTION_SIZE: usize = 12;
+
+const START: usize = 0;
+
+const TAIL: usize = 4;
+
+const PARENT: usize = 8;
+
+const MOST_FUNCTIONS: usize = 256;
+
+const MOST_FUNCTION_BYTES: usize = 3072;
+
+// Then the chunk, of at most one byte more than is taken.
+const MOST_LENGTH: usize = 65537;
+
+const MOST_RECORDS: u64 = 1000000;
+
+// The number at offset `at`.
+fn number_at(s: &[u8], at: usize) -> usize
+    ensures { λ r. ⌜ r < 2 ^ 32 ⌝ }
+{
+    int_at(s, at) as usize
+}
+
+// Reads the next `size` bytes of the file into `buf`, and answers how many it read: none where `buf` is too short.
+fn read_part(fd: i32, buf: &mut [u8], size: usize) -> usize
+    ensures { λ r. ⌜ Counts r (now (buf .exit)) ⌝ }
+{
+    if buf.len() < size {
+        return 0;
+    }
+    io::read_full(fd, &mut buf[..size])
+}
+
+// The refusal that a reading ended with.
+fn refusal_of(c: Cursor) -> Refusal {
+    match c {
+        Cursor::Here(_) => Refusal {
+            number: 0,
+            place: 0,
+        },
+        Cursor::TooLong => Refusal {
+            number: 1,
+            place: 0,
+        },
+        Cursor::HeaderDiffers(place) => Refusal { number: 2, place },
+        Cursor::Ended(place) => Refusal { number: 3, place },
+        Cursor::OutOfRange(place) => Refusal { number: 4, place },
+        Cursor::TooManyFunctions(place) => Refusal { number: 5, place },
+        Cursor::LeftOver(place) => Refusal { number: 6, place },
+    }
+}
+
+// Whether the first `count` functions stand where the record has them.
+fn same_functions(functions: Functions, count: usize, recorded: &[u8]) -> bool {
+    if MOST_FUNCTIONS < count {
+        return false;
+    }
+    let mut i: usize = 0;
+    while i < count {
+        let at = i * FUNCTION_SIZE;
+        if functions.starts[i] != number_at(recorded, at + START) {
+            return false;
+        }
+        if functions.tails[i] != number_at(recorded, at + TAIL) {
+            return false;
+        }
+        if functions.parents[i] as usize != number_at(recorded, at + PARENT) {
+            return false;
+        }
+        i += 1;
+    }
+    true
+}
+
+// Whether the walk's answer is the recorded one.
+fn same_walk(walked: Walked, head: &[u8], recorded: &[u8]) -> bool {
+    let cursor = walked.cursor;
+    let functions = walked.functions;
+    let count = functions.count;
+    let refused = refusal_of(cursor);
+    if refused.number != int_at(head, NUMBER) {
+        return false;
+    }
+    if refused.place != number_at(head, PLACE) {
+        return false;
+    }
+    if count != number_at(head, COUNT) {
+        return false;
+    }
+    same_functions(functions, count, recorded)
+}
+
+// The next record: read, walked and compared. One that is not whole differs.
+fn record(fd: i32) -> Outcome {
+    let mut head = [0u8; HEAD_SIZE];
+    let got = io::read_full(fd, &mut head);
+    if got == 0 {
+        return Outcome::End;
+    }
+    if got < HEAD_SIZE {
+        return Outcome::Differs;
+    }
+    let mut recorded = [0u8; MOST_FUNCTION_BYTES];
+    let known = number_at(&head, COUNT) * FUNCTION_SIZE;
+    if read_part(fd, &mut recorded, known) != known {
+        return Outcome::Differs;
+    }
+    let mut chunk = [0u8; MOST_LENGTH];
+    let length = number_at(&head, LENGTH);
+    let n = read_part(fd, &mut chunk, length);
+    if n != length {
+        return Outcome::Differs;
+    }
+    if same_walk(walk(&chunk[..n]), &head, &recorded) {
+        Outcome::Agrees
+    } else {
+        Outcome::Differs
+    }
+}
+
+// The count of records that agree and of those that differ; and the index of the first that differs.
+fn say(agree: u64, differ: u64, first: u64) {
+    io::print_decimal(1, agree);
+    io::write_all(1, b" agree, ");
+    io::print_decimal(1, differ);
+    io::write_all(1, b" differ\n");
+    if 0 < differ {
+        io::write_all(1, b"the first that differs: ");
+        io::print_decimal(1, first);
+        io::write_all(1, b"\n");
+    }
+}
+
+// All records to the end of the file.
+fn all(fd: i32) {
+    let mut left = MOST_RECORDS;
+    let mut agree: u64 = 0;
+    let mut differ: u64 = 0;
+    let mut first: u64 = 0;
+    while 0 < left {
+        let outcome = record(fd);
+        match outcome {
+            Outcome::End => break,
+            Outcome::Agrees => agree += 1,
+            Outcome::Differs => {
+                if differ == 0 {
+                    first = agree;
+                }
+                differ += 1;
+            }
+        }
+        left -= 1;
+    }
+    say(agree, differ, first);
+}
+
+fn main() {
+    let path = b"cases";
+    let fd = os::open_read(path);
+    if fd < 0 {
+        os::fail(path);
+        return;
+    }
+    all(fd);
+    libc::close(fd);
+}
