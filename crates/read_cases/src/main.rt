@@ -94,10 +94,10 @@ fn same_functions(functions: Functions, count: usize, recorded: &[u8]) -> bool {
     let mut i: usize = 0;
     while i < count {
         let at = i * FUNCTION_SIZE;
-        if functions.starts[i] != number_at(recorded, at + START) {
+        if functions.starts[i] != int_at(recorded, at + START) {
             return false;
         }
-        if functions.tails[i] != number_at(recorded, at + TAIL) {
+        if functions.tails[i] != int_at(recorded, at + TAIL) {
             return false;
         }
         if functions.parents[i] as usize != number_at(recorded, at + PARENT) {

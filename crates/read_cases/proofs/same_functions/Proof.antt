@@ -25,11 +25,11 @@ mul-if2 c = search needs
 element-copy-out-if2 : tie.Need-element-copy-out-if2 Inv-loop μ-loop
 element-copy-out-if2 c = search needs
 
-add-number-at : tie.Need-add-number-at Inv-loop μ-loop
-add-number-at c = search needs
+add-int-at : tie.Need-add-int-at Inv-loop μ-loop
+add-int-at c = search needs
 
-number-at-requires : tie.Need-number-at-requires Inv-loop μ-loop
-number-at-requires c κs = search needs
+int-at-requires : tie.Need-int-at-requires Inv-loop μ-loop
+int-at-requires c κs = search needs
 
 returns-2 : tie.Need-returns-2 Inv-loop μ-loop
 returns-2 c = search needs
@@ -40,11 +40,11 @@ mul-if3 c = search needs
 element-copy-out-if3 : tie.Need-element-copy-out-if3 Inv-loop μ-loop
 element-copy-out-if3 c = search needs
 
-add-number-at-2 : tie.Need-add-number-at-2 Inv-loop μ-loop
-add-number-at-2 c = search needs
+add-int-at-2 : tie.Need-add-int-at-2 Inv-loop μ-loop
+add-int-at-2 c = search needs
 
-number-at-requires-2 : tie.Need-number-at-requires-2 Inv-loop μ-loop
-number-at-requires-2 c κs = search needs
+int-at-requires-2 : tie.Need-int-at-requires-2 Inv-loop μ-loop
+int-at-requires-2 c κs = search needs
 
 returns-3 : tie.Need-returns-3 Inv-loop μ-loop
 returns-3 c = search needs
@@ -55,11 +55,11 @@ element-copy-out-if4 c = search needs
 cast-if4 : tie.Need-cast-if4 Inv-loop μ-loop
 cast-if4 c = search needs
 
-add-number-at-3 : tie.Need-add-number-at-3 Inv-loop μ-loop
-add-number-at-3 c = search needs
+add-number-at : tie.Need-add-number-at Inv-loop μ-loop
+add-number-at c = search needs
 
-number-at-requires-3 : tie.Need-number-at-requires-3 Inv-loop μ-loop
-number-at-requires-3 c κs = search needs
+number-at-requires : tie.Need-number-at-requires Inv-loop μ-loop
+number-at-requires c κs = search needs
 
 returns-4 : tie.Need-returns-4 Inv-loop μ-loop
 returns-4 c = search needs
@@ -87,18 +87,18 @@ same-functions-spec =
     mul-at
     mul-if2
     element-copy-out-if2
-    add-number-at
-    number-at-requires
+    add-int-at
+    int-at-requires
     returns-2
     mul-if3
     element-copy-out-if3
-    add-number-at-2
-    number-at-requires-2
+    add-int-at-2
+    int-at-requires-2
     returns-3
     element-copy-out-if4
     cast-if4
-    add-number-at-3
-    number-at-requires-3
+    add-number-at
+    number-at-requires
     returns-4
     add-i
     loop-less
