@@ -37,7 +37,7 @@ pub struct Walked {
 
 const MOST_BYTES: usize = 65536;
 
-const MOST_FUNCTIONS: usize = 256;
+pub const MOST_FUNCTIONS: usize = 256;
 
 const MOST_DEPTH: usize = 32;
 
