@@ -4,11 +4,13 @@ use mathlib.Core.Path.{_≡_}
 use mathlib.Core.List.{List, [], _∷_, _++_, map}
 use lib.ListN.{getD, length, take, drop}
 use Rattle.lua51_deserializer.specs.Proto.{Proto}
-use Rattle.lua51_deserializer.specs.Chunk.{here, _then_, byteAt, intAt, offset, constant, head, code, constants, lines, locals, names, Place, nowhere, walk, kindOf, valueAt, bytesOf, wordsOf, constantsOf, nestedIn, protoAt, most, most-bytes, most-flags, most-functions, most-words}
+use Rattle.lua51_deserializer.specs.Chunk.{here, _then_, byteAt, intAt, offset, constant, head, code, constants, lines, locals, names, Place, nowhere, walk, kindOf, valueAt, bytesOf, wordsOf, constantsOf, nestedIn, protoAt, most, most-bytes, most-flags, most-functions, most-words, constantsAt, Nil}
 use Rattle.lua51_deserializer.specs.Constant.{within}
 use Rattle.lua51_deserializer.specs.Range.{over, only}
-use Rattle.lua51_deserializer.specs.Walked.{placeAt}
+use Rattle.lua51_deserializer.specs.Walked.{placeAt, walkOf}
 use Rattle.lua51_deserializer.specs.declared.chunk.Functions.{Functions}
+use Rattle.lua51_deserializer.specs.declared.chunk.Walked.{Walked}
+use Rattle.lua51_deserializer.specs.declared.fields.Cursor.the-variants.{Here}
 use Rattle.lua51_deserializer.specs.declared.function.Head.{Head}
 use Rattle.lua51_deserializer.specs.declared.function.Loaded.{Loaded}
 
@@ -101,3 +103,65 @@ pub record Loads (s : List ℕ) (ps : List Place) (f : ℕ) (r : Loaded) (ws ws�
   pub places : Filled (r .constants) (min (length ks) (length cs)) (map short (constantPlaces s ps f)) cs cs′
   pub nested : Filled (r .nested) (min (length ns) (length us)) (protoAt s ps f .nested) ns ns′
   pub captured : Filled (r .nested) (min (length ns) (length us)) (protoAt s ps f .captured) us us′
+
+-- ------------------------------------------------------------ a chunk that is not refused
+
+-- a function at p was read, each of its fields: up to its nested functions, and behind them; and each of its constants
+pub record WasRead (s : List ℕ) (p : Place) : Type 0 where
+  pub head : head s (p .start) ≡ here (wordsOf s (p .start))
+  pub code : code s (wordsOf s (p .start)) ≡ here (constantsOf s (p .start))
+  pub nested : ℕ
+  pub constants : constants s (constantsOf s (p .start)) ≡ here nested
+  pub constant : (i : ℕ) → i < length (constantPlacesOf s (p .start)) → (j : ℕ) × (constant s (getD (constantPlacesOf s (p .start)) i 0) ≡ here j)
+  pub end : ℕ
+  pub tail : (lines s (p .tail) then locals s then names s) ≡ here end
+
+-- a function within the limits: 'Words above 8,192; another count or string size above 65,536; flags above 7' (4), and as
+-- many functions as a chunk can have beside it (5)
+pub record InLimits (p : Proto) : Type 0 where
+  pub flags : p .flags ≤ most-flags
+  pub words : length (p .words) ≤ most-words
+  pub kinds : length (p .kinds) ≤ most
+  pub nested : length (p .nested) < most-functions
+  pub captured : length (p .captured) < most-functions
+  pub lines : length (p .lines) ≤ most
+  pub names : p .names ≤ most
+
+-- what a chunk that is not refused is: short enough, of few functions, each read and within the limits
+pub record WholeChunk (s : List ℕ) : Type 0 where
+  pub bytes : length s ≤ most-bytes
+  pub functions : length (walk s .places) ≤ most-functions
+  pub read : (f : ℕ) → f < length (walk s .places) → WasRead s (getD (walk s .places) f nowhere)
+  pub limited : (f : ℕ) → f < length (walk s .places) → InLimits (protoAt s (walk s .places) f)
+
+-- ------------------------------------------------------------ a function that is held whole
+
+-- the buffers have room for every function of a chunk
+pub record Roomy (ws ks cs ns us : List ℕ) : Type 0 where
+  pub words : most-words ≤ length ws
+  pub kinds : most ≤ length ks
+  pub places : most ≤ length cs
+  pub nested : most-functions ≤ length ns
+  pub captured : most-functions ≤ length us
+
+-- the buffers hold all of function f, as many of each list as r says; and at the place of each constant one was read, whose
+-- value is the function's
+pub record Holds (s : List ℕ) (ps : List Place) (f : ℕ) (r : Loaded) (ws ks cs ns us : List ℕ) : Type 0 where
+  pub stands : Stands (protoAt s ps f) (r .head) (take (r .words) ws) (take (r .constants) ks) (take (r .nested) ns) (take (r .nested) us)
+  pub words : length (protoAt s ps f .words) ≡ r .words
+  pub constants : length (protoAt s ps f .kinds) ≡ r .constants
+  pub nested : length (protoAt s ps f .nested) ≡ r .nested
+  pub limits : InLimits (protoAt s ps f)
+  pub constant : (i : ℕ) → i < r .constants → (j : ℕ) × (constant s (getD cs i 0) ≡ here j)
+  pub value : (i : ℕ) → i < r .constants → valueAt s (getD cs i 0) ≡ getD (constantsAt s ps f) i Nil
+
+-- a chunk that is not refused is whole
+abbrev pub Unrefused : Type 0
+Unrefused = (s : List ℕ) (j : ℕ) → walk s .read ≡ here j → WholeChunk s
+
+-- where a chunk was walked and is not refused, each of its functions that is loaded into buffers with room is held whole
+abbrev pub HoldsEach : Type 0
+HoldsEach =
+    (s : List ℕ) (w : Walked) (at f : ℕ) (r : Loaded) (ws ws′ ks ks′ cs cs′ ns ns′ us us′ : List ℕ)
+    → walkOf w ≡ walk s → w .cursor ≡ Here at → f < w .functions .count → Roomy ws ks cs ns us
+    → Loads s (heldOf (w .functions)) f r ws ws′ ks ks′ cs cs′ ns ns′ us us′ → Holds s (walk s .places) f r ws′ ks′ cs′ ns′ us′
