@@ -12,7 +12,7 @@ use lib.ListN.{length, drop, getD, drop-of-length-le}
 use lib.Seq.{drop-cons}
 use types.Run.{OneOf, miss}
 use denote.Enum.Declared.{tagOf}
-use Rattle.lua51_deserializer.specs.Chunk.{Read, here, refused, _then_, again, exactly, signature}
+use Rattle.lua51_deserializer.specs.Chunk.{Read, here, refused, _then_, again, offset, exactly, signature}
 use Rattle.lua51_deserializer.specs.Cursor.{readOf}
 use Rattle.lua51_deserializer.specs.declared.fields.Cursor.{Cursor}
 use Rattle.lua51_deserializer.specs.declared.fields.Cursor.the-variants.{Here, TooLong, HeaderDiffers, Ended}
@@ -35,6 +35,16 @@ refusal (LeftOver i) h = (6, i, refl)
 
 pub sticky : (c : Cursor) (f : ℕ → Read) → OneOf refusals (tagOf the-type c) → readOf c ≡ (readOf c then f)
 sticky c f h = let (n, p, e) = refusal c h in rw e refl
+
+-- a refusal stands at no offset
+pub offset-refused : (c : Cursor) → OneOf refusals (tagOf the-type c) → 0 ≡ offset (readOf c)
+offset-refused (Here i) h = absurd (miss refusals 0 tt h)
+offset-refused TooLong h = refl
+offset-refused (HeaderDiffers i) h = refl
+offset-refused (Ended i) h = refl
+offset-refused (OutOfRange i) h = refl
+offset-refused (TooManyFunctions i) h = refl
+offset-refused (LeftOver i) h = refl
 
 pub goes : (c : Cursor) (f : ℕ → Read) (i : ℕ) (r : Read) → c ≡ Here i → r ≡ f i → r ≡ (readOf c then f)
 goes c f i r e h = rw e h

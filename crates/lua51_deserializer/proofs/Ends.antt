@@ -25,7 +25,7 @@ pattern-past s i h = omega (arith, int-past s i h, int-past s (i + 4) (omega ari
 
 module _ (s : List ℕ) (i : ℕ) where
   -- what is the same at every place behind the last byte is the same at a place and at the place cut off
-  cut-off : {A : Type 0} (f : ℕ → A) (z : A) → ((j : ℕ) → length s ≤ j → f j ≡ z) → f (within s i) ≡ f i
+  pub cut-off : {A : Type 0} (f : ℕ → A) (z : A) → ((j : ℕ) → length s ≤ j → f j ≡ z) → f (within s i) ≡ f i
   cut-off f z past = either-way (ltb i (length s))
       (λ t. rw t)
       (λ t. rw t (past (length s) (omega arith) ∙ sym (past i (ltb-false i (length s) t))))

@@ -7,7 +7,7 @@ ghost use Rattle.lua51_deserializer.specs.Chunk.{byteAt, intAt};
 const BYTE_VALUES: u32 = 256;
 
 // The byte `k` bytes behind offset `at`; 0 past the end.
-fn byte_behind(s: &[u8], at: usize, k: usize) -> u8
+pub fn byte_behind(s: &[u8], at: usize, k: usize) -> u8
     ensures { λ r. ⌜ r ≡ byteAt (now (s .entry)) (at + k) ⌝ }
 {
     if s.len() <= at {

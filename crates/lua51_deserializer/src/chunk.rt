@@ -41,7 +41,7 @@ pub struct Walked {
 // Limits: refusals 1 and 5.
 const MOST_BYTES: usize = 65536;
 
-const MOST_FUNCTIONS: usize = 256;
+pub const MOST_FUNCTIONS: usize = 256;
 
 const MOST_DEPTH: usize = 32;
 

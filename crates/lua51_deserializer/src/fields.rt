@@ -37,7 +37,7 @@ pub enum Element {
 // Sizes of fields.
 pub const BYTE_SIZE: usize = 1;
 
-const INT_SIZE: usize = 4;
+pub const INT_SIZE: usize = 4;
 
 const NUMBER_SIZE: usize = 8;
 
@@ -51,13 +51,13 @@ const MOST_FLAGS: u32 = 7;
 const MOST_BOOLEAN: u32 = 1;
 
 // Kinds of constants.
-const KIND_NIL: u8 = 0;
+pub const KIND_NIL: u8 = 0;
 
-const KIND_BOOLEAN: u8 = 1;
+pub const KIND_BOOLEAN: u8 = 1;
 
-const KIND_NUMBER: u8 = 3;
+pub const KIND_NUMBER: u8 = 3;
 
-const KIND_STRING: u8 = 4;
+pub const KIND_STRING: u8 = 4;
 
 // Whether the bytes go on for `size` bytes from offset `at`.
 pub fn whole(s: &[u8], at: usize, size: usize) -> bool

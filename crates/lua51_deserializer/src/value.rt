@@ -6,13 +6,9 @@ ghost use Rattle.lua51_deserializer.specs.Constant.{within, patternAt, n
 use crate::bits::field;
 use crate::bytes::byte_at;
 use crate::bytes::int_at;
-
-// The kinds of constants.
-const KIND_NIL: u8 = 0;
-
-const KIND_BOOLEAN: u8 = 1;
-
-const KIND_NUMBER: u8 = 3;
+use crate::fields::KIND_BOOLEAN;
+use crate::fields::KIND_NIL;
+use crate::fields::KIND_NUMBER;
 
 // The bits of infinity, the sign left out: a NaN's are above them.
 const INFINITY: u64 = 0x7FF0000000000000;
@@ -42,7 +38,7 @@ const HIGH_FROM: usize = 4;
 const HIGH_WORTH: u64 = 1 << 32;
 
 // The place k bytes behind an offset, or the end of the bytes where that comes first.
-fn place_after(s: &[u8], at: usize, k: usize) -> usize
+pub fn place_after(s: &[u8], at: usize, k: usize) -> usize
     ensures { λ r. ⌜ r ≡ within (now (s .entry)) (at + k) ⌝ }
 {
     if s.len() <= at {
