@@ -1,1 +1,3 @@
-// The graph of a function: leaders, ranges, block numbers, edges, between blocks. So far the definitions only (specs/).
+// The graph of a function without its statements: leaders, ranges, block numbers, edges, and between blocks.
+pub mod marks; // the words at which ranges start
+mod flow; // where a word leads
