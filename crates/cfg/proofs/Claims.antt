@@ -1,12 +1,12 @@
 -- What a word's flow says of the words that it makes leaders, and the marks after each word. Assumes nothing.
-use Prim.Native.Nat.{ℕ, _+_, _<_}
+use Prim.Native.Nat.{ℕ, _+_, _<_, _≤_}
 use native.Mathlib.Omega.{arith}
 use mathlib.Core.Bool.{Bool, cond, _||_}
 use mathlib.Core.List.{List}
 use mathlib.Core.Path.{_≡_, refl, _∙_}
 use lib.Dec.{eqb, ltb}
 use lib.ListN.{length, getD}
-use borrow.Author.Tests.{ltb-true, ltb-false, lt-ltb}
+use borrow.Author.Tests.{ltb-true, ltb-false, lt-ltb, le-ltb}
 use Rattle.lua51_deserializer.specs.Word.{Flow, rowOf, fieldOpcode}
 use Rattle.lua51_deserializer.specs.Proto.{Proto, size, flowAt}
 use Rattle.lua51_deserializer.specs.Range.{sum, times}
@@ -18,6 +18,13 @@ use Rattle.cfg.proofs.Tables.{marked-at, sum-more}
 -- what the flow f of a function's word says, said of the function
 pub at-flow : {A : Type 0} (g : Flow → A) (x : A) (p : Proto) (ws : List ℕ) (i : ℕ) (f : Flow) → p .words ≡ ws → f ≡ rowOf (fieldOpcode (getD ws i 0)) .flow → x ≡ g f → x ≡ g (flowAt p i)
 at-flow g x p ws i f e h q = rw (e, ← h) q
+
+-- of a word of the function, and of none
+pub within : {A : Type 0} (x y none : A) (p : Proto) (ws : List ℕ) (i : ℕ) → p .words ≡ ws → i < length ws → y ≡ x → y ≡ cond (ltb i (size p)) x none
+within x y none p ws i e lt h = rw (e, lt-ltb i (length ws) lt) h
+
+pub beyond : {A : Type 0} (x none : A) (p : Proto) (ws : List ℕ) (i : ℕ) → p .words ≡ ws → length ws ≤ i → none ≡ cond (ltb i (size p)) x none
+beyond x none p ws i e le = rw (e, le-ltb i (length ws) le)
 
 module _ (p : Proto) where
   -- word j leads a range by what the first k words say

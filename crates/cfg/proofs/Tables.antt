@@ -1,10 +1,11 @@
 -- Arrays given by what stands at each index, and marks put into them. Assumes nothing.
-use Prim.Native.Nat.{ℕ, zero, suc, _+_, _<_}
+use Prim.Native.Nat.{_≤_, ℕ, zero, suc, _+_, _<_}
 use native.Mathlib.Omega.{arith}
 use native.Mathlib.Decide.{ℕ-discrete}
 use mathlib.Core.Bool.{Bool, true, false, cond}
 use mathlib.Core.List.{List, [], _∷_}
-use mathlib.Core.Path.{_≡_, refl, _∙_, sym, ap}
+use mathlib.Core.Path.{subst, _≡_, refl, _∙_, sym, ap}
+use mir.Val.{boolByte}
 use lib.Dec.{eqb, ltb}
 use lib.ListN.{length, getD, set, length-set}
 use lib.Seq.{getD-set-same, getD-set-other, ext-getD}
@@ -12,6 +13,15 @@ use borrow.Author.Tests.{lt-ltb, eq-eqb, ne-eqb}
 use Rattle.lua51_deserializer.specs.Range.{only, over, sum, times}
 use Rattle.lua51_deserializer.proofs.Range.{sum-split}
 use Rattle.cfg.specs.Arrays.{table, bit, marked}
+
+-- the number that a test is cast to
+pub byte-is : (b : Bool) → boolByte b ≡ bit b
+byte-is true = refl
+byte-is false = refl
+
+pub bit-few : (b : Bool) → bit b ≤ 1
+bit-few true = omega arith
+bit-few false = omega arith
 
 -- ------------------------------------------------------------ tables
 
@@ -38,16 +48,33 @@ module _ (f : ℕ → ℕ) where
   tabled a n e h = ext-getD 0 a (table f n) (e ∙ sym (table-length n)) (λ i lt. h i lt ∙ sym (table-at n i (rw e at lt)))
 
   -- one entry more
-  pub filled-more : (a : List ℕ) (i : ℕ) → i < length a → ((k : ℕ) → k < i → getD a k 0 ≡ f k) → (k : ℕ) → k < i + 1 → getD (set a i (f i)) k 0 ≡ f k
-  filled-more a i h below k l = go (ℕ-discrete k i)
+  pub filled-more : (a : List ℕ) (i v : ℕ) → v ≡ f i → i < length a → ((k : ℕ) → k < i → getD a k 0 ≡ f k) → (k : ℕ) → k < i + 1 → getD (set a i v) k 0 ≡ f k
+  filled-more a i v q h below k l = go (ℕ-discrete k i)
     where
-      go : Dec (k ≡ i) → getD (set a i (f i)) k 0 ≡ f k
-      go (yes e) = ap (λ (j : ℕ). getD (set a i (f i)) j 0) e ∙ getD-set-same a i (f i) 0 h ∙ ap f (sym e)
-      go (no n) = getD-set-other a i k (f i) 0 n ∙ (let m : k < i = omega arith in below k m)
+      go : Dec (k ≡ i) → getD (set a i v) k 0 ≡ f k
+      go (yes e) = rw e (getD-set-same a i v 0 h ∙ q)
+      go (no n) = getD-set-other a i k v 0 n ∙ (let m : k < i = omega arith in below k m)
 
   pub sum-more : (i : ℕ) → sum f 0 (i + 1) ≡ sum f 0 i + f i
   unfolding sum
   sum-more i = let z : 0 + i ≡ i = omega arith in omega (arith, rw z at (sum-split f 0 i 1))
+
+  pub sum-none : (from k : ℕ) → ((i : ℕ) → i < k → f (from + i) ≡ 0) → sum f from k ≡ 0
+  unfolding sum
+  sum-none from zero h = refl
+  sum-none from (suc k) h =
+      let z : from + 0 ≡ from = omega arith in
+      let first : f from ≡ 0 = rw z at (h 0 (omega arith)) in
+      omega (arith, sum-none (from + 1) k (λ i lt. subst (λ (x : ℕ). f x ≡ 0) (omega arith) (h (suc i) (omega arith))))
+
+  -- the sum of what agrees
+  pub sum-same : (g : ℕ → ℕ) (from k : ℕ) → ((i : ℕ) → i < k → f (from + i) ≡ g (from + i)) → sum f from k ≡ sum g from k
+  unfolding sum
+  sum-same g from zero h = refl
+  sum-same g from (suc k) h =
+      let z : from + 0 ≡ from = omega arith in
+      let first : f from ≡ g from = rw z at (h 0 (omega arith)) in
+      omega (arith, sum-same g (from + 1) k (λ i lt. subst (λ (x : ℕ). f x ≡ g x) (omega arith) (h (suc i) (omega arith))))
 
 -- ------------------------------------------------------------ marks
 

@@ -1,10 +1,12 @@
 // Leaders: the words at which a function's ranges start, as marks in an array.
 ghost use mathlib.Core.Path.{_≡_};
 ghost use Prim.Native.Nat.{_<_};
-ghost use lib.ListN.{length, set};
+ghost use mathlib.Core.Bool.{not};
+ghost use lib.Dec.{eqb};
+ghost use lib.ListN.{length, getD, set};
 ghost use Rattle.lua51_deserializer.specs.Proto.{Proto, flowAt};
 ghost use Rattle.cfg.specs.Graph.{claims};
-ghost use Rattle.cfg.specs.Arrays.{table, mark, claimed, marked};
+ghost use Rattle.cfg.specs.Arrays.{table, bit, mark, claimed, marked};
 use crate::flow::flow_of;
 use crate::flow::target_of;
 use lua51_deserializer::instruction::Flow;
@@ -88,4 +90,17 @@ pub fn mark_leaders(words: &[u32], marks: &mut [u8])
         put_claims(marks, claims_at(words, i));
         i += 1;
     }
+}
+
+// 1 where word j is marked, 0 where it is not or lies outside.
+pub fn mark_at(marks: &[u8], j: usize) -> usize
+    ensures { λ r. ⌜ r ≡ bit (not (eqb (getD (now (marks .entry)) j 0) 0)) ⌝ }
+{
+    if marks.len() <= j {
+        return 0;
+    }
+    if marks[j] == 0 {
+        return 0;
+    }
+    1
 }

@@ -32,7 +32,7 @@ loop-again c =
     let l = c .before .loop in (
       simp length-set (omega arith),
       simp length-set (l .inv .1),
-      filled-more (λ _. 0) (l .marks) (l .j) (c .loop-test .taken) (l .inv .2),
+      filled-more (λ _. 0) (l .marks) (l .j) 0 refl (c .loop-test .taken) (l .inv .2),
     )
 
 same-length : tie.Need-same-length Inv-loop μ-loop
