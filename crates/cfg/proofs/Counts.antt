@@ -20,12 +20,12 @@ use Rattle.cfg.proofs.Tables.{bit-few, table-at, table-length, started-
 
 -- ------------------------------------------------------------ counts
 
-pub entered-length : (ts a : List ℕ) → length (entered ts a) ≡ length a
+entered-length : (ts a : List ℕ) → length (entered ts a) ≡ length a
 unfolding entered
 entered-length [] a = refl
 entered-length (t ∷ ts) a = entered-length ts (set a t (getD a t 0 + 1)) ∙ length-set a t (getD a t 0 + 1)
 
-pub entered-at : (ts a : List ℕ) (t : ℕ) → t < length a → getD (entered ts a) t 0 ≡ getD a t 0 + times t ts
+entered-at : (ts a : List ℕ) (t : ℕ) → t < length a → getD (entered ts a) t 0 ≡ getD a t 0 + times t ts
 unfolding entered times
 entered-at [] a t lt = omega arith
 entered-at (u ∷ ts) a t lt = entered-at ts b t (simp length-set lt) ∙ go (ℕ-discrete t u)

@@ -27,11 +27,11 @@ bit-seen : (b : Bool) → bit (not (eqb (bit b) 0)) ≡ bit b
 bit-seen true = refl
 bit-seen false = refl
 
-pub bit-yes : (b : Bool) → bit b ≡ 1 → b ≡ true
+bit-yes : (b : Bool) → bit b ≡ 1 → b ≡ true
 bit-yes true h = refl
 bit-yes false h = absurd (omega arith)
 
-pub bit-no : (b : Bool) → (bit b ≡ 1 → ⊥) → b ≡ false
+bit-no : (b : Bool) → (bit b ≡ 1 → ⊥) → b ≡ false
 bit-no true h = absurd (h refl)
 bit-no false h = refl
 

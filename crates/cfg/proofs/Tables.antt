@@ -86,11 +86,6 @@ started-at n j a b cleared put lt = rw (put, cleared) (go (ℕ-discrete j 0))
     go (yes e) = rw e (getD-set-same (table (λ _. 0) n) 0 1 0 (omega (arith, table-length (λ _. 0) n)))
     go (no d) = rw (ne-eqb j 0 d) (getD-set-other (table (λ _. 0) n) 0 j 1 0 d ∙ table-at (λ _. 0) n j lt)
 
-pub marked-length : (js a : List ℕ) → length (marked js a) ≡ length a
-unfolding marked
-marked-length [] a = refl
-marked-length (j ∷ js) a = marked-length js (set a j 1) ∙ length-set a j 1
-
 either-one : (b : Bool) → cond {A = ℕ} b 1 1 ≡ 1
 either-one true = refl
 either-one false = refl
