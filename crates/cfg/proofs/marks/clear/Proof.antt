@@ -1,0 +1,58 @@
+-- `marks::clear`: the marks so far are 0. Assumes nothing.
+use mathlib.Core.Path.{_≡_, refl}
+use Prim.Native.Nat.{ℕ, _<_, _≤_, _-_}
+use native.Mathlib.Omega.{arith}
+use lib.ListN.{length, getD, length-set}
+use Rattle.cfg.proofs.Tables.{filled-more, tabled}
+use Rattle.cfg.proofs.marks.clear.Statement.{statement}
+use Rattle.cfg.proofs.marks.clear.Tie as tie
+use Rattle.cfg.proofs.marks.clear.Reads as reads
+use Rattle.cfg.proofs.marks.clear.Lts as lts
+
+abbrev Inv-loop : tie.InvT-loop
+Inv-loop marks₀ j₀ marks j = (j ≤ length marks) × (length marks ≡ length marks₀) × ((k : ℕ) → k < j → getD marks k 0 ≡ 0)
+
+abbrev μ-loop : tie.MeasureT-loop
+μ-loop marks₀ j₀ marks j = length marks - j
+
+loop-holds : tie.Need-loop-holds Inv-loop μ-loop
+loop-holds c = (omega arith, refl, λ k h. absurd (omega arith))
+
+slice-write-marks : tie.Need-slice-write-marks Inv-loop μ-loop
+slice-write-marks c = omega arith
+
+add-j : tie.Need-add-j Inv-loop μ-loop
+add-j c = omega arith
+
+loop-less : tie.Need-loop-less Inv-loop μ-loop
+loop-less c = simp length-set (omega arith)
+
+loop-again : tie.Need-loop-again Inv-loop μ-loop
+loop-again c =
+    let l = c .before .loop in (
+      simp length-set (omega arith),
+      simp length-set (l .inv .1),
+      filled-more (λ _. 0) (l .marks) (l .j) 0 refl (c .loop-test .taken) (l .inv .2),
+    )
+
+same-length : tie.Need-same-length Inv-loop μ-loop
+same-length c = c .before .loop .inv .1
+
+returns : tie.Need-returns Inv-loop μ-loop
+returns c =
+    let l = c .before .loop in
+    tabled (λ _. 0) (l .marks) (length (c .before .before .args .marks .now)) (l .inv .1) (λ k h. l .inv .2 k (omega arith))
+
+pub clear-spec : {M : Type 1} → statement M
+clear-spec =
+    tie.close
+    (tie.spec
+    Inv-loop
+    μ-loop
+    loop-holds
+    slice-write-marks
+    add-j
+    loop-less
+    loop-again
+    same-length
+    returns)

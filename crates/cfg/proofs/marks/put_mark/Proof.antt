@@ -1,0 +1,23 @@
+-- `marks::put_mark`: a mark outside changes nothing. Assumes nothing.
+use mathlib.Core.Path.{sym}
+use lib.Seq.{set-out}
+use borrow.Author.Needs.{needs}
+use Rattle.cfg.proofs.marks.put_mark.Statement.{statement}
+use Rattle.cfg.proofs.marks.put_mark.Tie as tie
+use Rattle.cfg.proofs.marks.put_mark.Reads as reads
+use Rattle.cfg.proofs.marks.put_mark.Lts as lts
+
+slice-write-marks : tie.Need-slice-write-marks
+slice-write-marks c = search needs
+
+same-length : tie.Need-same-length
+same-length c = search needs
+
+returns : tie.Need-returns
+returns c = search needs
+
+returns-2 : tie.Need-returns-2
+returns-2 c = sym (set-out _ _ _ (c .if1 .left))
+
+pub put-mark-spec : {M : Type 1} → statement M
+put-mark-spec = tie.close (tie.spec slice-write-marks same-length returns returns-2)
