@@ -1,10 +1,10 @@
 -- Arrays given by what stands at each index, and marks put into them. Assumes nothing.
-use Prim.Native.Nat.{_≤_, ℕ, zero, suc, _+_, _<_}
+use Prim.Native.Nat.{ℕ, zero, suc, _+_, _<_, _≤_}
 use native.Mathlib.Omega.{arith}
 use native.Mathlib.Decide.{ℕ-discrete}
 use mathlib.Core.Bool.{Bool, true, false, cond}
 use mathlib.Core.List.{List, [], _∷_}
-use mathlib.Core.Path.{subst, _≡_, refl, _∙_, sym, ap}
+use mathlib.Core.Path.{_≡_, refl, _∙_, sym, ap, subst}
 use mir.Val.{boolByte}
 use lib.Dec.{eqb, ltb}
 use lib.ListN.{length, getD, set, length-set}

@@ -11,9 +11,6 @@ use Rattle.cfg.specs.Arrays.{bit, Counted, betweensBefore}
 use Rattle.cfg.proofs.Tables.{byte-is, bit-few, filled-more, sum-more, tabled}
 use Rattle.cfg.proofs.betweens.count_betweens.Statement.{statement}
 use Rattle.cfg.proofs.betweens.count_betweens.Tie as tie
-use Rattle.cfg.proofs.betweens.count_betweens.Reads as reads
-use Rattle.cfg.proofs.betweens.count_betweens.Lts as lts
-use Rattle.cfg.proofs.betweens.is_diverted.Reads as is-diverted-reads
 
 abbrev Inv-loop : tie.InvT-loop
 Inv-loop words counts earlier₀ count₀ i₀ earlier count i =

@@ -3,8 +3,6 @@ use lib.ListN.{List·getD-eq-default}
 use borrow.Author.Needs.{needs}
 use Rattle.cfg.proofs.betweens.is_shared.Statement.{statement}
 use Rattle.cfg.proofs.betweens.is_shared.Tie as tie
-use Rattle.cfg.proofs.betweens.is_shared.Reads as reads
-use Rattle.cfg.proofs.betweens.is_shared.Lts as lts
 
 returns : tie.Need-returns
 returns c = rw (List·getD-eq-default (c .before .args .counts .now) 0 (c .if1 .taken))

@@ -10,9 +10,6 @@ use Rattle.cfg.proofs.Tables.{filled-more, sum-more, tabled}
 use Rattle.cfg.proofs.Numbering.{seen, seen-few, numbers-are}
 use Rattle.cfg.proofs.blocks.number_blocks.Statement.{statement}
 use Rattle.cfg.proofs.blocks.number_blocks.Tie as tie
-use Rattle.cfg.proofs.blocks.number_blocks.Reads as reads
-use Rattle.cfg.proofs.blocks.number_blocks.Lts as lts
-use Rattle.cfg.proofs.marks.mark_at.Reads as mark-at-reads
 
 abbrev Inv-loop : tie.InvT-loop
 Inv-loop marks numbers₀ count₀ j₀ numbers count j =

@@ -9,9 +9,6 @@ use Rattle.cfg.specs.Arrays.{leaders}
 use Rattle.cfg.proofs.Numbering.{seen-yes, seen-no, from, from-here, from-next, from-none, end-behind, end-last, end-from}
 use Rattle.cfg.proofs.blocks.range_end.Statement.{statement}
 use Rattle.cfg.proofs.blocks.range_end.Tie as tie
-use Rattle.cfg.proofs.blocks.range_end.Reads as reads
-use Rattle.cfg.proofs.blocks.range_end.Lts as lts
-use Rattle.cfg.proofs.marks.mark_at.Reads as mark-at-reads
 
 abbrev Inv-loop : tie.InvT-loop
 Inv-loop marks j end₀ end =

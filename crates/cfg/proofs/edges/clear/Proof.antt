@@ -7,8 +7,6 @@ use Rattle.cfg.proofs.Tables.{filled-more, tabled}
 use borrow.Author.Needs.{needs}
 use Rattle.cfg.proofs.edges.clear.Statement.{statement}
 use Rattle.cfg.proofs.edges.clear.Tie as tie
-use Rattle.cfg.proofs.edges.clear.Reads as reads
-use Rattle.cfg.proofs.edges.clear.Lts as lts
 
 abbrev Inv-loop : tie.InvT-loop
 Inv-loop counts₀ t₀ counts t = (t ≤ length counts) × (length counts ≡ length counts₀) × ((k : ℕ) → k < t → getD counts k 0 ≡ 0)

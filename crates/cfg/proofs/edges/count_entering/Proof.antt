@@ -13,12 +13,6 @@ use Rattle.cfg.proofs.Tables.{tabled}
 use Rattle.cfg.proofs.Counts.{none-at, entry-at, entry-most, entered-most, few, counts-turn, counts-none, counts-all}
 use Rattle.cfg.proofs.edges.count_entering.Statement.{statement}
 use Rattle.cfg.proofs.edges.count_entering.Tie as tie
-use Rattle.cfg.proofs.edges.count_entering.Reads as reads
-use Rattle.cfg.proofs.edges.count_entering.Lts as lts
-use Rattle.cfg.proofs.edges.clear.Reads as clear-reads
-use Rattle.cfg.proofs.edges.enter.Reads as enter-reads
-use Rattle.cfg.proofs.edges.enter_all.Reads as enter-all-reads
-use Rattle.cfg.proofs.edges.exits_at.Reads as exits-at-reads
 
 abbrev Inv-loop : tie.InvT-loop
 Inv-loop words marks counts₀ i₀ counts i =

@@ -4,8 +4,6 @@ use lib.Seq.{set-out}
 use borrow.Author.Needs.{needs}
 use Rattle.cfg.proofs.edges.enter.Statement.{statement}
 use Rattle.cfg.proofs.edges.enter.Tie as tie
-use Rattle.cfg.proofs.edges.enter.Reads as reads
-use Rattle.cfg.proofs.edges.enter.Lts as lts
 
 mul-counts : tie.Need-mul-counts
 mul-counts c = search needs

@@ -5,9 +5,6 @@ use Rattle.cfg.proofs.Counts.{put-most}
 use borrow.Author.Needs.{needs}
 use Rattle.cfg.proofs.edges.enter_all.Statement.{statement}
 use Rattle.cfg.proofs.edges.enter_all.Tie as tie
-use Rattle.cfg.proofs.edges.enter_all.Reads as reads
-use Rattle.cfg.proofs.edges.enter_all.Lts as lts
-use Rattle.cfg.proofs.edges.enter.Reads as enter-reads
 
 enum-told : tie.Need-enum-told
 enum-told c = search needs

@@ -7,10 +7,6 @@ use Rattle.cfg.proofs.Counts.{exits-some, exits-none}
 use borrow.Author.Needs.{needs}
 use Rattle.cfg.proofs.edges.exits_at.Statement.{statement}
 use Rattle.cfg.proofs.edges.exits_at.Tie as tie
-use Rattle.cfg.proofs.edges.exits_at.Reads as reads
-use Rattle.cfg.proofs.edges.exits_at.Lts as lts
-use Rattle.cfg.proofs.marks.mark_at.Reads as mark-at-reads
-use Rattle.cfg.proofs.edges.edges_at.Reads as edges-at-reads
 
 add-mark-at : tie.Need-add-mark-at
 add-mark-at c = search needs

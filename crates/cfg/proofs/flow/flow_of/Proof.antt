@@ -2,10 +2,6 @@
 use borrow.Author.Needs.{needs}
 use Rattle.cfg.proofs.flow.flow_of.Statement.{statement}
 use Rattle.cfg.proofs.flow.flow_of.Tie as tie
-use Rattle.cfg.proofs.flow.flow_of.Reads as reads
-use Rattle.cfg.proofs.flow.flow_of.Lts as lts
-use Rattle.lua51_deserializer.proofs.instruction.opcode_of.Reads as opcode-of-reads
-use Rattle.lua51_deserializer.proofs.instruction.row_of.Reads as row-of-reads
 
 opcode-of-requires : tie.Need-opcode-of-requires
 opcode-of-requires c κs = search needs

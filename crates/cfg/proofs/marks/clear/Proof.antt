@@ -6,8 +6,6 @@ use lib.ListN.{length, getD, length-set}
 use Rattle.cfg.proofs.Tables.{filled-more, tabled}
 use Rattle.cfg.proofs.marks.clear.Statement.{statement}
 use Rattle.cfg.proofs.marks.clear.Tie as tie
-use Rattle.cfg.proofs.marks.clear.Reads as reads
-use Rattle.cfg.proofs.marks.clear.Lts as lts
 
 abbrev Inv-loop : tie.InvT-loop
 Inv-loop marks₀ j₀ marks j = (j ≤ length marks) × (length marks ≡ length marks₀) × ((k : ℕ) → k < j → getD marks k 0 ≡ 0)

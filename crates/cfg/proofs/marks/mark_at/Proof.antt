@@ -4,8 +4,6 @@ use borrow.Author.Tests.{ne-eqb}
 use borrow.Author.Needs.{needs}
 use Rattle.cfg.proofs.marks.mark_at.Statement.{statement}
 use Rattle.cfg.proofs.marks.mark_at.Tie as tie
-use Rattle.cfg.proofs.marks.mark_at.Reads as reads
-use Rattle.cfg.proofs.marks.mark_at.Lts as lts
 
 returns : tie.Need-returns
 returns c = rw (List·getD-eq-default (c .before .args .marks .now) 0 (c .if1 .taken))

@@ -10,12 +10,6 @@ use Rattle.cfg.proofs.Tables.{started-at, tabled}
 use Rattle.cfg.proofs.Claims.{leadsBy, leads-none, leads-all, marks-turn}
 use Rattle.cfg.proofs.marks.mark_leaders.Statement.{statement}
 use Rattle.cfg.proofs.marks.mark_leaders.Tie as tie
-use Rattle.cfg.proofs.marks.mark_leaders.Reads as reads
-use Rattle.cfg.proofs.marks.mark_leaders.Lts as lts
-use Rattle.cfg.proofs.marks.claims_at.Reads as claims-at-reads
-use Rattle.cfg.proofs.marks.clear.Reads as clear-reads
-use Rattle.cfg.proofs.marks.put_claims.Reads as put-claims-reads
-use Rattle.cfg.proofs.marks.put_mark.Reads as put-mark-reads
 
 abbrev Inv-loop : tie.InvT-loop
 Inv-loop words marks₀ i₀ marks i =

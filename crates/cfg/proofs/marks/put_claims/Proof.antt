@@ -3,9 +3,6 @@ use Rattle.cfg.specs.Arrays.{marked}
 use borrow.Author.Needs.{needs}
 use Rattle.cfg.proofs.marks.put_claims.Statement.{statement}
 use Rattle.cfg.proofs.marks.put_claims.Tie as tie
-use Rattle.cfg.proofs.marks.put_claims.Reads as reads
-use Rattle.cfg.proofs.marks.put_claims.Lts as lts
-use Rattle.cfg.proofs.marks.put_mark.Reads as put-mark-reads
 
 enum-told : tie.Need-enum-told
 enum-told c = search needs

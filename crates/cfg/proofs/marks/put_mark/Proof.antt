@@ -4,8 +4,6 @@ use lib.Seq.{set-out}
 use borrow.Author.Needs.{needs}
 use Rattle.cfg.proofs.marks.put_mark.Statement.{statement}
 use Rattle.cfg.proofs.marks.put_mark.Tie as tie
-use Rattle.cfg.proofs.marks.put_mark.Reads as reads
-use Rattle.cfg.proofs.marks.put_mark.Lts as lts
 
 slice-write-marks : tie.Need-slice-write-marks
 slice-write-marks c = search needs
