@@ -51,17 +51,19 @@ module _ {n : ℕ} {xs rest before held : List ℕ} (f : Filling n xs rest befor
   pub filling-as : {other : List ℕ} → rest ≡ other → Filling n xs other before held
   filling-as e = record { inside = f .inside; room = f .room; left = f .left ∙ e; content = f .content }
 
+  pub filled-count : (room : ℕ) → n ≡ min (length xs) room → Filled n room xs before held
+  filled-count room h =
+      let inside : n ≤ length held = omega (arith, filling-length) in
+      record { count = h; content = f .content; inside = inside; front = sym (length-take-le n held inside) }
+
   -- no room is left, or nothing is to come
   pub filled-full : (room : ℕ) → n ≡ room → Filled n room xs before held
-  filled-full room e = record { count = omega arith; content = f .content }
+  filled-full room e = filled-count room (omega arith)
 
   pub filled-all : (room : ℕ) → n ≤ room → rest ≡ [] → Filled n room xs before held
   filled-all room h e =
       let whole : length xs ≡ n = omega (arith, length-drop n xs, ap length (f .left ∙ e)) in
-      record { count = omega arith; content = f .content }
-
-  pub filled-count : (room : ℕ) → n ≡ min (length xs) room → Filled n room xs before held
-  filled-count room h = record { count = h; content = f .content }
+      filled-count room (omega arith)
 
 -- one element more
 pub filling-more : {n y : ℕ} {xs ys before held : List ℕ} (v : ℕ) → Filling n xs (y ∷ ys) before held → v ≡ y → n < length before

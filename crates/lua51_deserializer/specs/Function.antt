@@ -77,10 +77,13 @@ short i = i % 2 ^ 32
 
 -- ------------------------------------------------------------ buffers
 
--- a buffer held `before` and then `after`: xs, as far as there is room, n of them; and behind them what stood there
+-- a buffer held `before` and then `after`: xs, as far as there is room, n of them; and behind them what stood there. So n is a
+-- count of elements at the front of the buffer, which is stated for whoever takes that part of it.
 pub record Filled (n room : ℕ) (xs before after : List ℕ) : Type 0 where
   pub count : n ≡ min (length xs) room
   pub content : after ≡ take n xs ++ drop n before
+  pub inside : n ≤ length after
+  pub front : n ≡ length (take n after)
 
 -- the head of a function
 abbrev pub headOf : Proto → Head
