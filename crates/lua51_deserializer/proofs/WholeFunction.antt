@@ -1,9 +1,9 @@
 -- The buffers hold each function of a chunk that is not refused, whole. Assumes nothing.
-use mathlib.Core.Path.{_≡_, refl, sym, _∙_, ap}
 use mathlib.Core.List.{List, [], _∷_, map}
+use mathlib.Core.Path.{_≡_, refl, sym, _∙_, ap}
 use Prim.Native.Nat.{ℕ, zero, suc, _+_, _≤_, _<_, _^_, min}
-use native.Mathlib.Omega.{arith}
 use native.Mathlib.Nat.{mod-eq-of-lt}
+use native.Mathlib.Omega.{arith}
 use lib.ListN.{length, getD, take, drop, length-map}
 use lib.Seq.{take-at, take-length, getD-take}
 use Rattle.lua51_deserializer.specs.Chunk.{here, Place, Walk, nowhere, walk, constant, valueAt, intAt, constantsAt, constantsOf, Nil, protoAt, most-bytes}
@@ -11,8 +11,8 @@ use Rattle.lua51_deserializer.specs.Walked.{placesOf, walkOf}
 use Rattle.lua51_deserializer.specs.Function.{heldCount, heldOf, short, constantPlaces, Filled, Loads, WasRead, InLimits, Roomy, Holds, HoldsEach}
 use Rattle.lua51_deserializer.specs.declared.chunk.Walked.{Walked}
 use Rattle.lua51_deserializer.specs.declared.fields.Cursor.the-variants.{Here}
-use Rattle.lua51_deserializer.specs.declared.function.Loaded.{Loaded}
 use Rattle.lua51_deserializer.specs.declared.function.Head.{Head}
+use Rattle.lua51_deserializer.specs.declared.function.Loaded.{Loaded}
 use Rattle.lua51_deserializer.proofs.Places.{places-length}
 use Rattle.lua51_deserializer.proofs.Buffers.{values-are}
 use Rattle.lua51_deserializer.proofs.FieldEnds.{constant-inside}
@@ -94,7 +94,7 @@ module _ (s : List ℕ) (ps : List Place) (f : ℕ) (r : Loaded) (ws ws′ ks ks
       }
 
 pub holds-each : HoldsEach
-holds-each s w at f r ws ws′ ks ks′ cs cs′ ns ns′ us us′ walked here-at below room loads =
+holds-each s w at f r ws ws′ ks ks′ cs cs′ ns ns′ us us′ walked here-at below loads room =
     let read : walk s .read ≡ here at = sym (ap (λ (v : Walk). v .read) walked) ∙ rw here-at in
     let whole = whole-chunk s at read in
     let inside : f < length (walk s .places) = omega (arith, places-length (w .functions), ap (λ (v : Walk). length (v .places)) walked) in

@@ -1,7 +1,7 @@
 -- The function that the code holds as a head and lists of numbers, and what the buffers hold once it is read.
-use Prim.Native.Nat.{ℕ, zero, suc, _+_, _%_, _^_, _≤_, _<_, min}
-use mathlib.Core.Path.{_≡_}
 use mathlib.Core.List.{List, [], _∷_, _++_, map}
+use mathlib.Core.Path.{_≡_}
+use Prim.Native.Nat.{ℕ, zero, suc, _+_, _%_, _^_, _≤_, _<_, min}
 use lib.ListN.{getD, length, take, drop}
 use Rattle.lua51_deserializer.specs.Proto.{Proto}
 use Rattle.lua51_deserializer.specs.Chunk.{here, _then_, byteAt, intAt, offset, constant, head, code, constants, lines, locals, names, Place, nowhere, walk, kindOf, valueAt, bytesOf, wordsOf, constantsOf, nestedIn, protoAt, most, most-bytes, most-flags, most-functions, most-words, constantsAt, Nil}
@@ -166,5 +166,6 @@ Unrefused = (s : List ℕ) (j : ℕ) → walk s .read ≡ here j → WholeChunk 
 abbrev pub HoldsEach : Type 0
 HoldsEach =
     (s : List ℕ) (w : Walked) (at f : ℕ) (r : Loaded) (ws ws′ ks ks′ cs cs′ ns ns′ us us′ : List ℕ)
-    → walkOf w ≡ walk s → w .cursor ≡ Here at → f < w .functions .count → Roomy ws ks cs ns us
-    → Loads s (heldOf (w .functions)) f r ws ws′ ks ks′ cs cs′ ns ns′ us us′ → Holds s (walk s .places) f r ws′ ks′ cs′ ns′ us′
+    → walkOf w ≡ walk s → w .cursor ≡ Here at → f < w .functions .count
+    → Loads s (heldOf (w .functions)) f r ws ws′ ks ks′ cs cs′ ns ns′ us us′ → Roomy ws ks cs ns us
+    → Holds s (walk s .places) f r ws′ ks′ cs′ ns′ us′

@@ -1,26 +1,18 @@
-use Rattle.lua51_deserializer.proofs.Buffers.{within-after, Filling, filling-none, filling-as, filling-more, filling-length, filled-count, places-turn, places-count}
-use Rattle.lua51_deserializer.proofs.Ends.{int-within}
+-- `function::fill_constants`: the loop's invariant: the first i kinds and places stand in front, and the rest are found from the place that is next. Assumes nothing.
+use mathlib.Core.List.{_∷_, map}
+use mathlib.Core.Path.{_≡_, refl, _∙_, ap}
+use Prim.Native.Nat.{_+_, _-_, _≤_, _<_}
+use native.Mathlib.Nat.{sub-zero}
+use native.Mathlib.Omega.{arith}
+use borrow.Author.Needs.{needs}
+use lib.ListN.{length, length-map}
 use Rattle.lua51_deserializer.specs.Function.{placesFrom, constantPlacesOf, short, kindAt}
 use Rattle.lua51_deserializer.specs.Constant.{within}
 use Rattle.lua51_deserializer.specs.Chunk.{intAt, offset, constant, constantsOf}
-use borrow.Author.Needs.{needs}
-use lib.ListN.{length, length-map}
-use native.Mathlib.Omega.{arith}
-use native.Mathlib.Nat.{sub-zero}
-use Prim.Native.Nat.{_+_, _-_, _≤_, _<_}
-use mathlib.Core.List.{_∷_, map}
-use mathlib.Core.Path.{_≡_, refl, _∙_, ap}
+use Rattle.lua51_deserializer.proofs.Buffers.{within-after, Filling, filling-none, filling-as, filling-more, filling-length, filled-count, places-turn, places-count}
+use Rattle.lua51_deserializer.proofs.Ends.{int-within}
 use Rattle.lua51_deserializer.proofs.function.fill_constants.Statement.{statement}
 use Rattle.lua51_deserializer.proofs.function.fill_constants.Tie as tie
-use Rattle.lua51_deserializer.proofs.function.fill_constants.Reads as reads
-use Rattle.lua51_deserializer.proofs.function.fill_constants.Lts as lts
-use Rattle.lua51_deserializer.proofs.bytes.int_at.Reads as int-at-reads
-use Rattle.lua51_deserializer.proofs.fields.constant.Reads as constant-reads
-use Rattle.lua51_deserializer.proofs.function.constants_of.Reads as constants-of-reads
-use Rattle.lua51_deserializer.proofs.function.kind_at.Reads as kind-at-reads
-use Rattle.lua51_deserializer.proofs.function.least.Reads as least-reads
-use Rattle.lua51_deserializer.proofs.function.offset_of.Reads as offset-of-reads
-use Rattle.lua51_deserializer.proofs.value.place_after.Reads as place-after-reads
 
 abbrev Inv-loop : tie.InvT-loop
 Inv-loop s start kinds₀ places₀ count-at room n at₀ i₀ kinds places at i =
@@ -31,31 +23,24 @@ Inv-loop s start kinds₀ places₀ count-at room n at₀ i₀ kinds places at i
 abbrev μ-loop : tie.MeasureT-loop
 μ-loop s start kinds₀ places₀ count-at room n at₀ i₀ kinds places at i = n - i
 
--- src/function.rt:187:9
 constants-of-requires : tie.Need-constants-of-requires Inv-loop μ-loop
 constants-of-requires c κs = search needs
 
--- src/function.rt:188:9
 least-requires : tie.Need-least-requires Inv-loop μ-loop
 least-requires c κs = search needs
 
--- src/function.rt:189:19
 int-at-requires : tie.Need-int-at-requires Inv-loop μ-loop
 int-at-requires c κs = search needs
 
--- src/function.rt:189:19
 cast-least : tie.Need-cast-least Inv-loop μ-loop
 cast-least c = search needs
 
--- src/function.rt:189:9
 least-requires-2 : tie.Need-least-requires-2 Inv-loop μ-loop
 least-requires-2 c κs = search needs
 
--- src/function.rt:190:9
 place-after-requires : tie.Need-place-after-requires Inv-loop μ-loop
 place-after-requires c κs = search needs
 
--- src/function.rt:192:5
 loop-holds : tie.Need-loop-holds Inv-loop μ-loop
 loop-holds c =
     let r = c .before .before .before .before in
@@ -66,43 +51,33 @@ loop-holds c =
     let rest : constantPlacesOf s (a .start) ≡ placesFrom s (c .place-after .result) (intAt s k - 0) = rw (first, sub-zero (intAt s k)) in
     (omega arith, filling-as (filling-none _ _) (ap (map (kindAt s)) rest), filling-as (filling-none _ _) (ap (map short) rest))
 
--- src/function.rt:193:20
 kind-at-requires : tie.Need-kind-at-requires Inv-loop μ-loop
 kind-at-requires c κs = search needs
 
--- src/function.rt:193:9
 slice-write-kinds : tie.Need-slice-write-kinds Inv-loop μ-loop
 slice-write-kinds c = omega (arith, filling-length (c .before .before .loop .inv .1))
 
--- src/function.rt:194:21
 cast-places : tie.Need-cast-places Inv-loop μ-loop
 cast-places c = search needs
 
--- src/function.rt:194:9
 mul-places : tie.Need-mul-places Inv-loop μ-loop
 mul-places c = search needs
 
--- src/function.rt:194:9
 slice-write-places : tie.Need-slice-write-places Inv-loop μ-loop
 slice-write-places c = omega (arith, filling-length (c .before .before .loop .inv .2))
 
--- src/function.rt:195:24
 constant-requires : tie.Need-constant-requires Inv-loop μ-loop
 constant-requires c κs = search needs
 
--- src/function.rt:195:9
 offset-of-requires : tie.Need-offset-of-requires Inv-loop μ-loop
 offset-of-requires c κs = search needs
 
--- src/function.rt:196:9
 add-i : tie.Need-add-i Inv-loop μ-loop
 add-i c = search needs
 
--- src/function.rt:192:5
 loop-less : tie.Need-loop-less Inv-loop μ-loop
 loop-less c = search needs
 
--- src/function.rt:192:5
 loop-again : tie.Need-loop-again Inv-loop μ-loop
 loop-again c =
     let l = c .before .before .before .before in
@@ -122,15 +97,12 @@ loop-again c =
       filling-more _ (filling-as (l .loop .inv .2) (ap (map short) next)) refl (omega arith),
     )
 
--- src/function.rt:183:1
 same-length : tie.Need-same-length Inv-loop μ-loop
 same-length c = filling-length (c .before .loop .inv .1)
 
--- src/function.rt:183:1
 same-length-2 : tie.Need-same-length-2 Inv-loop μ-loop
 same-length-2 c = filling-length (c .before .loop .inv .2)
 
--- src/function.rt:183:1
 returns : tie.Need-returns Inv-loop μ-loop
 returns c =
     let l = c .before in

@@ -1,22 +1,16 @@
-use Rattle.lua51_deserializer.proofs.Buffers.{Filling, filling-none, filling-as, filling-more, filling-length, filled-full, filled-all, held-at, held-length, nested-start, nested-found, nested-none}
-use Rattle.lua51_deserializer.proofs.Ends.{byte-within}
-use Rattle.lua51_deserializer.specs.Function.{heldCount, heldOf, numberIn, upvaluesIn}
-use Rattle.lua51_deserializer.specs.Chunk.{Place, nowhere, nestedIn, bytesOf}
-use borrow.Author.Needs.{needs}
-use lib.ListN.{length, getD, drop}
-use native.Mathlib.Omega.{arith}
-use Prim.Native.Nat.{ℕ, _-_, _≤_, _<_}
+-- `function::fill_nested`: the loop's invariant: n nested functions stand in front, and the rest are those from k on, itself the next. Assumes nothing.
 use mathlib.Core.List.{_∷_, []}
 use mathlib.Core.Path.{_≡_, refl, _∙_, ap}
+use Prim.Native.Nat.{ℕ, _-_, _≤_, _<_}
+use native.Mathlib.Omega.{arith}
+use borrow.Author.Needs.{needs}
+use lib.ListN.{length, getD, drop}
+use Rattle.lua51_deserializer.specs.Function.{heldCount, heldOf, numberIn, upvaluesIn}
+use Rattle.lua51_deserializer.specs.Chunk.{Place, nowhere, nestedIn, bytesOf}
+use Rattle.lua51_deserializer.proofs.Buffers.{Filling, filling-none, filling-as, filling-more, filling-length, filled-full, filled-all, held-at, held-length, nested-start, nested-found, nested-none}
+use Rattle.lua51_deserializer.proofs.Ends.{byte-within}
 use Rattle.lua51_deserializer.proofs.function.fill_nested.Statement.{statement}
 use Rattle.lua51_deserializer.proofs.function.fill_nested.Tie as tie
-use Rattle.lua51_deserializer.proofs.function.fill_nested.Reads as reads
-use Rattle.lua51_deserializer.proofs.function.fill_nested.Lts as lts
-use Rattle.lua51_deserializer.proofs.bytes.byte_at.Reads as byte-at-reads
-use Rattle.lua51_deserializer.proofs.function.bytes_of.Reads as bytes-of-reads
-use Rattle.lua51_deserializer.proofs.function.held.Reads as held-reads
-use Rattle.lua51_deserializer.proofs.function.least.Reads as least-reads
-use Rattle.lua51_deserializer.proofs.function.next_nested.Reads as next-nested-reads
 
 abbrev Inv-loop : tie.InvT-loop
 Inv-loop s me numbers₀ captured₀ functions count room n₀ k₀ numbers captured n k =
@@ -28,19 +22,15 @@ Inv-loop s me numbers₀ captured₀ functions count room n₀ k₀ numbers capt
 abbrev μ-loop : tie.MeasureT-loop
 μ-loop s me numbers₀ captured₀ functions count room n₀ k₀ numbers captured n k = count - k
 
--- src/function.rt:222:9
 held-requires : tie.Need-held-requires Inv-loop μ-loop
 held-requires c κs = search needs
 
--- src/function.rt:223:9
 least-requires : tie.Need-least-requires Inv-loop μ-loop
 least-requires c κs = search needs
 
--- src/function.rt:225:9
 next-nested-requires : tie.Need-next-nested-requires Inv-loop μ-loop
 next-nested-requires c κs = search needs
 
--- src/function.rt:226:5
 loop-holds : tie.Need-loop-holds Inv-loop μ-loop
 loop-holds c =
     let a = c .before .before .before .before .before .before .args in
@@ -49,72 +39,56 @@ loop-holds c =
     λ f. nested-start f (a .me) ps ∙ c .next-nested .ensures .same f in
     (omega arith, c .next-nested .ensures .found, filling-as (filling-none _ _) (rest numberIn), filling-as (filling-none _ _) (rest (upvaluesIn (a .s .now))))
 
--- src/function.rt:228:13
 same-length : tie.Need-same-length Inv-loop μ-loop
 same-length c = filling-length (c .before .before .loop .inv .2)
 
--- src/function.rt:228:13
 same-length-2 : tie.Need-same-length-2 Inv-loop μ-loop
 same-length-2 c = filling-length (c .before .before .loop .inv .3)
 
--- src/function.rt:228:13
 returns : tie.Need-returns Inv-loop μ-loop
 returns c =
     let l = c .before .before in
     (filled-full (l .loop .inv .2) _ (omega arith), filled-full (l .loop .inv .3) _ (omega arith))
 
--- src/function.rt:230:22
 cast-numbers : tie.Need-cast-numbers Inv-loop μ-loop
 cast-numbers c = search needs
 
--- src/function.rt:230:9
 mul-numbers : tie.Need-mul-numbers Inv-loop μ-loop
 mul-numbers c = search needs
 
--- src/function.rt:230:9
 slice-write-numbers : tie.Need-slice-write-numbers Inv-loop μ-loop
 slice-write-numbers c = omega (arith, filling-length (c .before .before .loop .inv .2))
 
--- src/function.rt:231:46
 mul-bytes-of : tie.Need-mul-bytes-of Inv-loop μ-loop
 mul-bytes-of c = search needs
 
--- src/function.rt:231:46
 element-copy-out-bytes-of : tie.Need-element-copy-out-bytes-of Inv-loop μ-loop
 element-copy-out-bytes-of c = search needs
 
 cast-bytes-of : tie.Need-cast-bytes-of Inv-loop μ-loop
 cast-bytes-of c = search needs
 
--- src/function.rt:231:34
 bytes-of-requires : tie.Need-bytes-of-requires Inv-loop μ-loop
 bytes-of-requires c κs = search needs
 
--- src/function.rt:231:23
 byte-at-requires : tie.Need-byte-at-requires Inv-loop μ-loop
 byte-at-requires c κs = search needs
 
--- src/function.rt:231:9
 slice-write-captured : tie.Need-slice-write-captured Inv-loop μ-loop
 slice-write-captured c = omega (arith, filling-length (c .before .before .before .before .before .loop .inv .3))
 
--- src/function.rt:232:9
 add-n : tie.Need-add-n Inv-loop μ-loop
 add-n c = search needs
 
--- src/function.rt:233:40
 add-next-nested : tie.Need-add-next-nested Inv-loop μ-loop
 add-next-nested c = search needs
 
--- src/function.rt:233:9
 next-nested-requires-2 : tie.Need-next-nested-requires-2 Inv-loop μ-loop
 next-nested-requires-2 c κs = search needs
 
--- src/function.rt:226:5
 loop-less : tie.Need-loop-less Inv-loop μ-loop
 loop-less c = search needs
 
--- src/function.rt:226:5
 loop-again : tie.Need-loop-again Inv-loop μ-loop
 loop-again c =
     let l = c .before .before .before .before .before .before in
@@ -136,15 +110,12 @@ loop-again c =
       filling-more _ (filling-as (l .loop .inv .3) (next (upvaluesIn s))) value (omega arith),
     )
 
--- src/function.rt:218:1
 same-length-3 : tie.Need-same-length-3 Inv-loop μ-loop
 same-length-3 c = filling-length (c .before .loop .inv .2)
 
--- src/function.rt:218:1
 same-length-4 : tie.Need-same-length-4 Inv-loop μ-loop
 same-length-4 c = filling-length (c .before .loop .inv .3)
 
--- src/function.rt:218:1
 returns-2 : tie.Need-returns-2 Inv-loop μ-loop
 returns-2 c =
     let l = c .before in

@@ -1,82 +1,65 @@
-use Rattle.lua51_deserializer.proofs.Ends.{int-within}
+-- `function::fill_words`: the loop's invariant: the first i words stand in front. Assumes nothing.
 use mathlib.Core.List.{_∷_}
-use native.Mathlib.Numerals.{add-one}
-use lib.Seq.{drop-cons}
-use borrow.Author.Needs.{needs}
 use mathlib.Core.Path.{_≡_, _∙_}
 use Prim.Native.Nat.{_+_, _-_, _≤_, _<_}
+use native.Mathlib.Numerals.{add-one}
 use native.Mathlib.Omega.{arith}
+use borrow.Author.Needs.{needs}
 use lib.ListN.{length, getD, drop}
+use lib.Seq.{drop-cons}
 use Rattle.lua51_deserializer.specs.Chunk.{intAt, ints, wordsOf}
+use Rattle.lua51_deserializer.proofs.Ends.{int-within}
 use Rattle.lua51_deserializer.proofs.Buffers.{Filling, filling-none, filling-length, filling-as, filling-more, filled-count, ints-length, word-at}
 use Rattle.lua51_deserializer.proofs.function.fill_words.Statement.{statement}
 use Rattle.lua51_deserializer.proofs.function.fill_words.Tie as tie
-use Rattle.lua51_deserializer.proofs.function.fill_words.Reads as reads
-use Rattle.lua51_deserializer.proofs.function.fill_words.Lts as lts
-use Rattle.lua51_deserializer.proofs.bytes.int_at.Reads as int-at-reads
-use Rattle.lua51_deserializer.proofs.function.least.Reads as least-reads
-use Rattle.lua51_deserializer.proofs.function.words_of.Reads as words-of-reads
-use Rattle.lua51_deserializer.proofs.value.place_after.Reads as place-after-reads
 
 abbrev Inv-loop : tie.InvT-loop
-Inv-loop s start words₀ at first n i₀ words i = (i ≤ n) × Filling i (ints s (wordsOf s start + 4) (intAt s (wordsOf s start))) (drop i (ints s (wordsOf s start + 4) (intAt s (wordsOf s start)))) words₀ words
+Inv-loop s start words₀ at first n i₀ words i =
+    let all = ints s (wordsOf s start + 4) (intAt s (wordsOf s start)) in
+    (i ≤ n) × Filling i all (drop i all) words₀ words
 
 abbrev μ-loop : tie.MeasureT-loop
 μ-loop s start words₀ at first n i₀ words i = n - i
 
--- src/function.rt:154:9
 words-of-requires : tie.Need-words-of-requires Inv-loop μ-loop
 words-of-requires c κs = search needs
 
--- src/function.rt:155:9
 place-after-requires : tie.Need-place-after-requires Inv-loop μ-loop
 place-after-requires c κs = search needs
 
--- src/function.rt:156:19
 int-at-requires : tie.Need-int-at-requires Inv-loop μ-loop
 int-at-requires c κs = search needs
 
--- src/function.rt:156:19
 cast-least : tie.Need-cast-least Inv-loop μ-loop
 cast-least c = search needs
 
--- src/function.rt:156:9
 least-requires : tie.Need-least-requires Inv-loop μ-loop
 least-requires c κs = search needs
 
--- src/function.rt:158:5
 loop-holds : tie.Need-loop-holds Inv-loop μ-loop
 loop-holds c = (omega arith, filling-none _ _)
 
--- src/function.rt:159:52
 mul-place-after : tie.Need-mul-place-after Inv-loop μ-loop
 mul-place-after c = search needs
 
--- src/function.rt:159:30
 place-after-requires-2 : tie.Need-place-after-requires-2 Inv-loop μ-loop
 place-after-requires-2 c κs = search needs
 
--- src/function.rt:159:20
 int-at-requires-2 : tie.Need-int-at-requires-2 Inv-loop μ-loop
 int-at-requires-2 c κs = search needs
 
--- src/function.rt:159:9
 mul-words : tie.Need-mul-words Inv-loop μ-loop
 mul-words c = search needs
 
--- src/function.rt:159:9
 slice-write-words : tie.Need-slice-write-words Inv-loop μ-loop
 slice-write-words c = omega (arith, filling-length (c .before .before .before .loop .inv .1))
 
--- src/function.rt:160:9
 add-i : tie.Need-add-i Inv-loop μ-loop
 add-i c = search needs
 
--- src/function.rt:158:5
 loop-less : tie.Need-loop-less Inv-loop μ-loop
 loop-less c = search needs
 
--- src/function.rt:158:5
 loop-again : tie.Need-loop-again Inv-loop μ-loop
 loop-again c =
     let l = c .before .before .before in
@@ -94,11 +77,9 @@ loop-again c =
     word-at s w (intAt s w) i h (r .before .before .words-of .ensures) (r .before .place-after .ensures) (c .before .place-after2 .ensures) (c .int-at2 .ensures) in
     (omega arith, filling-more (c .int-at2 .result) (filling-as (l .loop .inv .1) next) value (omega arith))
 
--- src/function.rt:151:1
 same-length : tie.Need-same-length Inv-loop μ-loop
 same-length c = filling-length (c .before .loop .inv .1)
 
--- src/function.rt:151:1
 returns : tie.Need-returns Inv-loop μ-loop
 returns c =
     let l = c .before in

@@ -1,58 +1,41 @@
-use Rattle.lua51_deserializer.proofs.Buffers.{loads-words, loads-kinds, loads-places}
+-- `function::function_at`: its parts, at the place of the function. Assumes nothing.
+use borrow.Author.Needs.{needs}
 use Rattle.lua51_deserializer.specs.Function.{heldOf}
 use Rattle.lua51_deserializer.specs.Chunk.{protoAt}
-use borrow.Author.Needs.{needs}
+use Rattle.lua51_deserializer.proofs.Buffers.{loads-words, loads-kinds, loads-places}
 use Rattle.lua51_deserializer.proofs.function.function_at.Statement.{statement}
 use Rattle.lua51_deserializer.proofs.function.function_at.Tie as tie
-use Rattle.lua51_deserializer.proofs.function.function_at.Reads as reads
-use Rattle.lua51_deserializer.proofs.function.function_at.Lts as lts
-use Rattle.lua51_deserializer.proofs.function.fill_constants.Reads as fill-constants-reads
-use Rattle.lua51_deserializer.proofs.function.fill_nested.Reads as fill-nested-reads
-use Rattle.lua51_deserializer.proofs.function.fill_words.Reads as fill-words-reads
-use Rattle.lua51_deserializer.proofs.function.head_at.Reads as head-at-reads
-use Rattle.lua51_deserializer.proofs.function.start_of.Reads as start-of-reads
 
--- src/function.rt:243:9
 start-of-requires : tie.Need-start-of-requires
 start-of-requires c κs = search needs
 
--- src/function.rt:244:9
 head-at-requires : tie.Need-head-at-requires
 head-at-requires c κs = search needs
 
--- src/function.rt:247:16
 fill-words-requires : tie.Need-fill-words-requires
 fill-words-requires c κs = search needs
 
--- src/function.rt:248:20
 fill-constants-requires : tie.Need-fill-constants-requires
 fill-constants-requires c κs = search needs
 
--- src/function.rt:249:17
 fill-nested-requires : tie.Need-fill-nested-requires
 fill-nested-requires c κs = search needs
 
--- src/function.rt:240:1
 same-length : tie.Need-same-length
 same-length c = search needs
 
--- src/function.rt:240:1
 same-length-2 : tie.Need-same-length-2
 same-length-2 c = search needs
 
--- src/function.rt:240:1
 same-length-3 : tie.Need-same-length-3
 same-length-3 c = search needs
 
--- src/function.rt:240:1
 same-length-4 : tie.Need-same-length-4
 same-length-4 c = search needs
 
--- src/function.rt:240:1
 same-length-5 : tie.Need-same-length-5
 same-length-5 c = search needs
 
--- src/function.rt:240:1
 returns : tie.Need-returns
 unfolding protoAt
 returns c =

@@ -1,32 +1,25 @@
+-- `function::kind_at`: the three kinds that are told, and the rest. Assumes nothing.
+use borrow.Author.Needs.{needs}
 use borrow.Author.Tests.{ne-eqb}
 use Rattle.lua51_deserializer.specs.Chunk.{kindOf, valueAt}
-use borrow.Author.Needs.{needs}
 use Rattle.lua51_deserializer.proofs.function.kind_at.Statement.{statement}
 use Rattle.lua51_deserializer.proofs.function.kind_at.Tie as tie
-use Rattle.lua51_deserializer.proofs.function.kind_at.Reads as reads
-use Rattle.lua51_deserializer.proofs.function.kind_at.Lts as lts
-use Rattle.lua51_deserializer.proofs.bytes.byte_at.Reads as byte-at-reads
 
--- src/function.rt:169:9
 byte-at-requires : tie.Need-byte-at-requires
 byte-at-requires c κs = search needs
 
--- src/function.rt:171:9
 returns : tie.Need-returns
 unfolding kindOf valueAt
 returns c = rw (← c .before .byte-at .ensures, c .if1 .taken)
 
--- src/function.rt:174:9
 returns-2 : tie.Need-returns-2
 unfolding kindOf valueAt
 returns-2 c = rw (← c .before .before .byte-at .ensures, c .if2 .taken)
 
--- src/function.rt:177:9
 returns-3 : tie.Need-returns-3
 unfolding kindOf valueAt
 returns-3 c = rw (← c .before .before .before .byte-at .ensures, c .if3 .taken)
 
--- src/function.rt:166:1
 returns-4 : tie.Need-returns-4
 unfolding kindOf valueAt
 returns-4 c = rw (← c .before .before .before .byte-at .ensures, ne-eqb _ _ (c .before .before .if1 .left), ne-eqb _ _ (c .before .if2 .left), ne-eqb _ _ (c .if3 .left))

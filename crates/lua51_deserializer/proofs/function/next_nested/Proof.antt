@@ -1,16 +1,14 @@
-use borrow.Author.Needs.{needs}
+-- `function::next_nested`: the loop's invariant: from k on and from r on the same functions are nested. Assumes nothing.
 use mathlib.Core.Path.{_≡_, refl, sym, _∙_, ap}
 use Prim.Native.Nat.{ℕ, _-_, _≤_, _<_}
 use native.Mathlib.Omega.{arith}
+use borrow.Author.Needs.{needs}
 use lib.ListN.{length, getD, drop}
 use Rattle.lua51_deserializer.specs.Chunk.{Place, nowhere, nestedIn}
 use Rattle.lua51_deserializer.specs.Function.{heldOf}
 use Rattle.lua51_deserializer.proofs.Buffers.{held-at, held-length, nested-other}
 use Rattle.lua51_deserializer.proofs.function.next_nested.Statement.{statement}
 use Rattle.lua51_deserializer.proofs.function.next_nested.Tie as tie
-use Rattle.lua51_deserializer.proofs.function.next_nested.Reads as reads
-use Rattle.lua51_deserializer.proofs.function.next_nested.Lts as lts
-use Rattle.lua51_deserializer.proofs.function.held.Reads as held-reads
 
 abbrev Inv-loop : tie.InvT-loop
 Inv-loop me k functions count r₀ r = (k ≤ r) × ((f : ℕ → Place → ℕ) → nestedIn f me k (drop k (heldOf functions)) ≡ nestedIn f me r (drop r (heldOf functions)))
@@ -18,23 +16,18 @@ Inv-loop me k functions count r₀ r = (k ≤ r) × ((f : ℕ → Place → ℕ)
 abbrev μ-loop : tie.MeasureT-loop
 μ-loop me k functions count r₀ r = count - r
 
--- src/function.rt:205:9
 held-requires : tie.Need-held-requires Inv-loop μ-loop
 held-requires c κs = search needs
 
--- src/function.rt:207:5
 loop-holds : tie.Need-loop-holds Inv-loop μ-loop
 loop-holds c = (omega arith, λ f. refl)
 
--- src/function.rt:208:12
 element-copy-out-if1 : tie.Need-element-copy-out-if1 Inv-loop μ-loop
 element-copy-out-if1 c = search needs
 
--- src/function.rt:208:12
 cast-if1 : tie.Need-cast-if1 Inv-loop μ-loop
 cast-if1 c = search needs
 
--- src/function.rt:209:13
 returns : tie.Need-returns Inv-loop μ-loop
 returns c =
     let l = c .before .before .before in
@@ -45,15 +38,12 @@ returns c =
       same = l .loop .inv .1;
     }
 
--- src/function.rt:211:9
 add-r : tie.Need-add-r Inv-loop μ-loop
 add-r c = search needs
 
--- src/function.rt:207:5
 loop-less : tie.Need-loop-less Inv-loop μ-loop
 loop-less c = search needs
 
--- src/function.rt:207:5
 loop-again : tie.Need-loop-again Inv-loop μ-loop
 loop-again c =
     let l = c .before .before .before in
@@ -63,7 +53,6 @@ loop-again c =
     λ e. c .if1 .left (sym (ap (λ (p : Place). p .parent) (held-at (a .t1) (l .loop .r) (omega arith))) ∙ e) in
     (omega arith, λ f. l .loop .inv .1 f ∙ nested-other f (a .me) (heldOf (a .t1)) (l .loop .r) h other)
 
--- src/function.rt:202:1
 returns-2 : tie.Need-returns-2 Inv-loop μ-loop
 returns-2 c =
     let l = c .before in

@@ -1,23 +1,17 @@
+-- `function::words_of`: a place cut off twice is cut off once. Assumes nothing.
 use mathlib.Core.Path.{_∙_}
+use borrow.Author.Needs.{needs}
 use Rattle.lua51_deserializer.specs.Chunk.{bytesOf}
 use Rattle.lua51_deserializer.proofs.Buffers.{within-after}
-use borrow.Author.Needs.{needs}
 use Rattle.lua51_deserializer.proofs.function.words_of.Statement.{statement}
 use Rattle.lua51_deserializer.proofs.function.words_of.Tie as tie
-use Rattle.lua51_deserializer.proofs.function.words_of.Reads as reads
-use Rattle.lua51_deserializer.proofs.function.words_of.Lts as lts
-use Rattle.lua51_deserializer.proofs.function.bytes_of.Reads as bytes-of-reads
-use Rattle.lua51_deserializer.proofs.value.place_after.Reads as place-after-reads
 
--- src/function.rt:120:20
 bytes-of-requires : tie.Need-bytes-of-requires
 bytes-of-requires c κs = search needs
 
--- src/function.rt:120:5
 place-after-requires : tie.Need-place-after-requires
 place-after-requires c κs = search needs
 
--- src/function.rt:117:1
 returns : tie.Need-returns
 returns c =
     let a = c .before .before .before .args in
