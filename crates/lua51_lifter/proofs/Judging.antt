@@ -7,11 +7,11 @@ use native.Mathlib.Omega.{arith}
 use lib.Dec.{leb, ltb}
 use borrow.Author.Tests.{ltb-true, ltb-false, lt-ltb, le-ltb, leb-false}
 use Rattle.lua51_deserializer.proofs.Tests.{either-way}
-use Rattle.lua51_deserializer.specs.Word.{fieldBx, bias, JMP}
+use Rattle.lua51_deserializer.specs.Word.{JMP}
 use Rattle.lua51_deserializer.specs.Proto.{Proto, is, flowAt}
 use Rattle.lua51_deserializer.specs.Argument.{registerOrConstant}
 use Rattle.lua51_deserializer.specs.declared.argument.RegisterOrConstant.the-variants.{Register, Constant}
-use Rattle.lua51_deserializer.specs.Instruction.{targetOf, flowMeant}
+use Rattle.lua51_deserializer.specs.Instruction.{flowMeant}
 use Rattle.lua51_deserializer.specs.declared.instruction.Flow.{Flow}
 use Rattle.lua51_deserializer.specs.declared.instruction.Flow.the-variants.{Straight, Skip, Jump as Jumps, Test, TestSet, LoopEntry, NumericLoop, GenericLoop, Exit}
 use Rattle.lua51_deserializer.proofs.instruction.Flow.{the-type}
@@ -22,7 +22,6 @@ use Rattle.lua51_lifter.specs.declared.check.Verdict.the-variants.{Fine,
 use Rattle.lua51_lifter.proofs.check.Verdict.{the-type as verdict-type}
 use denote.Enum.Declared.{tagOf}
 use types.Run.{OneOf, miss}
-use Rattle.lua51_deserializer.specs.declared.instruction.Target.the-variants.{To, Outside}
 
 -- ------------------------------------------------------------ numbers
 
@@ -58,27 +57,6 @@ module _ (x k : ℕ) where
       by : (b : Bool) → Constant k ≡ cond b (Constant (x - 256)) (Register x) → ltb k n ≡ cond b (ltb (x - 256) n) (ltb x s)
       by true h = cc
       by false h = cc
-
--- ------------------------------------------------------------ jumps
-
-module _ (i n w : ℕ) where
-  pub jump-inside : (t : ℕ) → To t ≡ targetOf i n w → true ≡ leb bias (i + 1 + fieldBx w) && ltb (i + 1 + fieldBx w - bias) n
-  unfolding targetOf
-  jump-inside t = by (leb bias (i + 1 + fieldBx w)) (ltb (i + 1 + fieldBx w - bias) n)
-    where
-      by : (a b : Bool) → To t ≡ cond a (cond b (To (i + 1 + fieldBx w - bias)) Outside) Outside → true ≡ a && b
-      by true true h = refl
-      by true false h = cc
-      by false b h = cc
-
-  pub jump-outside : Outside ≡ targetOf i n w → false ≡ leb bias (i + 1 + fieldBx w) && ltb (i + 1 + fieldBx w - bias) n
-  unfolding targetOf
-  jump-outside = by (leb bias (i + 1 + fieldBx w)) (ltb (i + 1 + fieldBx w - bias) n)
-    where
-      by : (a b : Bool) → Outside ≡ cond a (cond b (To (i + 1 + fieldBx w - bias)) Outside) Outside → false ≡ a && b
-      by true true h = cc
-      by true false h = refl
-      by false b h = refl
 
 -- ------------------------------------------------------------ flows
 

@@ -1,27 +1,32 @@
-// Checking one function: refusals 7 to 14.
+// Checking one function: refusals 7 to 14, in their order.
 ghost use mathlib.Core.Path.{_≡_};
-ghost use mathlib.Core.Bool.{Bool, cond, not, _&&_, _||_};
+ghost use mathlib.Core.Bool.{false, cond};
 ghost use mathlib.Core.List.{List};
-ghost use Prim.Native.Nat.{ℕ, _+_, _-_, _/_, _%_};
-ghost use lib.Dec.{ltb, leb, eqb};
-ghost use lib.ListN.{length, getD};
-ghost use Rattle.lua51_deserializer.specs.Word.{fieldBx, bias};
-ghost use Rattle.lua51_deserializer.specs.Chunk.{kind-string};
-ghost use Rattle.lua51_deserializer.specs.Instruction.{kindMeant, flowMeant, Decodes};
-ghost use Rattle.lua51_deserializer.specs.Proto.{Proto, size, C};
+ghost use Prim.Native.Nat.{ℕ, _+_, _-_, _/_, _%_, _<_};
+ghost use lib.Dec.{eqb};
+ghost use lib.ListN.{length};
+ghost use Rattle.lua51_deserializer.specs.Proto.{Proto, size};
 ghost use Rattle.lua51_deserializer.specs.Function.{Stands};
-ghost use Rattle.lua51_lifter.specs.Check.{headFault, lastFault, operand, operandFault, landsInside, tests, wordVerdict, firstRefusal};
-ghost use Rattle.lua51_lifter.specs.Judgement.{verdictOf};
-use lua51_deserializer::argument::RegisterOrConstant;
-use lua51_deserializer::argument::register_or_constant;
+ghost use Rattle.cfg.specs.Graph.{leader};
+ghost use Rattle.lua51_lifter.specs.Check.{headFault, lastFault, wordVerdict, useVerdict, firstRefusal, reached, fine, check};
+ghost use Rattle.lua51_lifter.specs.Judgement.{verdictOf, Marked, Surveyed, checkWords};
+use crate::marks::mark_reached;
+use crate::marks::marked;
+use crate::operands::has_arg;
+use crate::operands::needs_arg;
+use crate::operands::operand_fault;
+use crate::reach::asks;
+use crate::reach::lands_inside;
+use crate::results::captures_missing;
+use crate::results::results_missing;
+use crate::results::results_unused;
+use crate::words::JMP;
+use crate::words::RETURN;
+use crate::words::TESTSET;
+use crate::words::word_at;
+use crate::words::word_behind;
 use lua51_deserializer::function::Head;
-use lua51_deserializer::instruction::Flow;
-use lua51_deserializer::instruction::Instruction;
-use lua51_deserializer::instruction::Kind;
-use lua51_deserializer::instruction::OPCODES;
-use lua51_deserializer::instruction::Target;
 use lua51_deserializer::instruction::decode;
-use lua51_deserializer::instruction::jump_target;
 use lua51_deserializer::instruction::opcode_of;
 
 // What a check finds: nothing, or the first fault, with its word.
@@ -45,66 +50,10 @@ pub enum Verdict {
     Shared(usize),
 }
 
-// ------------------------------------------------------------ words
-
-// The opcodes that are judged by name.
-const JMP: u8 = 22;
-
-const RETURN: u8 = 30;
-
-// Word i; 0 past the last.
-fn word_at(words: &[u32], i: usize) -> u32
-    ensures { λ r. ⌜ r ≡ getD (now (words .entry)) i 0 ⌝ }
-{
-    if i < words.len() {
-        return words[i];
-    }
-    0
-}
-
-// The word behind word i; 0 past the last.
-fn word_behind(words: &[u32], i: usize) -> u32
-    ensures { λ r. ⌜ r ≡ getD (now (words .entry)) (i + 1) 0 ⌝ }
-{
-    if i < words.len() {
-        return word_at(words, i + 1);
-    }
-    0
-}
-
 // ------------------------------------------------------------ 7 and 8: the function's head
 
 // The largest stack.
 const MOST_STACK: u8 = 250;
-
-// The flags of a function of variable arguments (lobject.h): it has a local `arg`, it takes variable arguments, and its `arg`
-// is filled.
-const HAS_ARG: u8 = 1;
-
-const IS_VARARG: u8 = 2;
-
-const NEEDS_ARG: u8 = 4;
-
-// Whether flag 1 is set.
-fn has_arg(flags: u8) -> bool
-    ensures { λ r. ⌜ r ≡ eqb (flags / 1 % 2) 1 ⌝ }
-{
-    flags / HAS_ARG % 2 == 1
-}
-
-// Whether flag 2 is set.
-fn is_vararg(flags: u8) -> bool
-    ensures { λ r. ⌜ r ≡ eqb (flags / 2 % 2) 1 ⌝ }
-{
-    flags / IS_VARARG % 2 == 1
-}
-
-// Whether flag 4 is set.
-fn needs_arg(flags: u8) -> bool
-    ensures { λ r. ⌜ r ≡ eqb (flags / 4 % 2) 1 ⌝ }
-{
-    flags / NEEDS_ARG % 2 == 1
-}
 
 // How many registers the parameters take, with `arg` where there is one.
 fn parameter_registers(head: Head) -> u32
@@ -141,157 +90,7 @@ pub fn last_fault(words: &[u32]) -> bool
     opcode_of(words[n - 1]) != RETURN
 }
 
-// ------------------------------------------------------------ 9: operands
-
-// The kind of a constant that is a string.
-const KIND_STRING: u8 = 4;
-
-// The largest flag of a test or of LOADBOOL.
-const MOST_FLAG: u32 = 1;
-
-// How far above R(A) the last register of a pair and of a quartet stands, and the one before a generic loop's variables.
-const PAIR_LAST: u32 = 1;
-
-const QUARTET_LAST: u32 = 3;
-
-const STATE_LAST: u32 = 2;
-
-// Whether an operand that is a register or a constant is inside.
-fn either_fits(x: u16, stack: u32, constants: usize) -> bool
-    ensures { λ r. ⌜ r ≡ cond (ltb 255 x) (ltb (x - 256) constants) (ltb x stack) ⌝ }
-{
-    match register_or_constant(x) {
-        RegisterOrConstant::Register(register) => (register as u32) < stack,
-        RegisterOrConstant::Constant(constant) => (constant as usize) < constants,
-    }
-}
-
-// Whether there is a constant of a number, and it is a string.
-fn names_global(constant: usize, kinds: &[u8]) -> bool
-    ensures { λ r. ⌜ r ≡ ltb constant (length (now (kinds .entry))) && eqb (getD (now (kinds .entry)) constant 0) kind-string ⌝ }
-{
-    if constant < kinds.len() {
-        return kinds[constant] == KIND_STRING;
-    }
-    false
-}
-
-// Whether operand x of an instruction is inside, by its kind.
-fn operand_fits(
-    kind: Kind,
-    x: u16,
-    instruction: Instruction,
-    head: Head,
-    kinds: &[u8],
-    nested: &[u32],
-) -> bool
-    ensures { λ r. ⌜ ((p : Proto) (i : ℕ) (ws us : List ℕ) → Stands p head ws (now (kinds .entry)) (now (nested .entry)) us → Decodes (getD ws i 0) instruction → r ≡ operand p i (kindMeant kind) x) ⌝ }
-{
-    let n = x as u32;
-    let a = instruction.a as u32;
-    let b = instruction.b as u32;
-    let bx = instruction.bx as usize;
-    let stack = head.stack as u32;
-    let values = (n <= 1) | (a + n < stack + 2);
-    match kind {
-        Kind::Unused => true,
-        Kind::Register => n < stack,
-        Kind::Either => either_fits(x, stack, kinds.len()),
-        Kind::Upvalue => n < head.upvalues as u32,
-        Kind::Flag => n <= MOST_FLAG,
-        Kind::Constant => bx < kinds.len(),
-        Kind::Global => names_global(bx, kinds),
-        Kind::Nested => bx < nested.len(),
-        Kind::Offset => true,
-        Kind::Pair => n + PAIR_LAST < stack,
-        Kind::Quartet => n + QUARTET_LAST < stack,
-        Kind::LastFromA => (a <= n) & (n < stack),
-        Kind::LastFromB => (b < n) & (n < stack),
-        Kind::Arguments => (n <= 1) | (a + n < stack + 1),
-        Kind::Values => values,
-        Kind::Varargs => is_vararg(head.flags) & !needs_arg(head.flags) & values,
-        Kind::Elements => a + n < stack,
-        Kind::Variables => (0 < n) & (a + STATE_LAST + n < stack),
-        Kind::BlockNumber => 0 < n,
-    }
-}
-
-// Whether the opcode of an instruction is unknown, or an operand is outside.
-fn operand_fault(instruction: Instruction, head: Head, kinds: &[u8], nested: &[u32]) -> bool
-    ensures { λ r. ⌜ ((p : Proto) (i : ℕ) (ws us : List ℕ) → Stands p head ws (now (kinds .entry)) (now (nested .entry)) us → Decodes (getD ws i 0) instruction → r ≡ operandFault p i) ⌝ }
-{
-    let row = instruction.row;
-    let known = (instruction.opcode as usize) < OPCODES;
-    let kind_a = row.a;
-    let kind_b = row.b;
-    let kind_c = row.c;
-    !(known
-        & operand_fits(
-            kind_a,
-            instruction.a as u16,
-            instruction,
-            head,
-            kinds,
-            nested,
-        )
-        & operand_fits(kind_b, instruction.b, instruction, head, kinds, nested)
-        & operand_fits(kind_c, instruction.c, instruction, head, kinds, nested))
-}
-
-// ------------------------------------------------------------ 10 and 11: targets and skips
-
-// How many words a skip goes on.
-const SKIP: usize = 2;
-
-// Whether the second word after word i is one of n words.
-fn skips_inside(i: usize, n: usize) -> bool
-    ensures { λ r. ⌜ r ≡ ltb (i + 2) n ⌝ }
-{
-    if n < SKIP {
-        return false;
-    }
-    i < n - SKIP
-}
-
-// Whether the jump that is word i of n words leads to one of them.
-fn jumps_inside(i: usize, n: usize, word: u32) -> bool
-    ensures { λ r. ⌜ r ≡ leb bias (i + 1 + fieldBx word) && ltb (i + 1 + fieldBx word - bias) n ⌝ }
-{
-    match jump_target(i, n, word) {
-        Target::To(_) => true,
-        Target::Outside => false,
-    }
-}
-
-// Whether the targets and skips of word i are words of the function.
-fn lands_inside(flow: Flow, words: &[u32], i: usize, c: u16) -> bool
-    ensures { λ r. ⌜ ((p : Proto) → p .words ≡ now (words .entry) → c ≡ C p i → r ≡ landsInside p i (flowMeant flow)) ⌝ }
-{
-    let n = words.len();
-    match flow {
-        Flow::Straight => true,
-        Flow::Skip => (c == 0) | skips_inside(i, n),
-        Flow::Jump => jumps_inside(i, n, word_at(words, i)),
-        Flow::Test => skips_inside(i, n),
-        Flow::TestSet => skips_inside(i, n),
-        Flow::LoopEntry => jumps_inside(i, n, word_at(words, i)),
-        Flow::NumericLoop => jumps_inside(i, n, word_at(words, i)),
-        Flow::GenericLoop => skips_inside(i, n),
-        Flow::Exit => true,
-    }
-}
-
-// Whether a flow is a test's or a generic loop's.
-fn asks(flow: Flow) -> bool
-    ensures { λ r. ⌜ r ≡ tests (flowMeant flow) ⌝ }
-{
-    match flow {
-        Flow::Test => true,
-        Flow::TestSet => true,
-        Flow::GenericLoop => true,
-        _ => false,
-    }
-}
+// ------------------------------------------------------------ 9 to 11: each word by itself
 
 // The verdict on word i by itself: its operands, then its targets and skips, then the jump behind a test.
 pub fn word_verdict(head: Head, words: &[u32], kinds: &[u8], nested: &[u32], i: usize) -> Verdict
@@ -325,4 +124,101 @@ pub fn words_verdict(head: Head, words: &[u32], kinds: &[u8], nested: &[u32]) ->
         i += 1;
     }
     Verdict::Fine
+}
+
+// ------------------------------------------------------------ 12 to 14: words among words
+
+// The verdict on word i among the others: its open results, then its captures, then the word behind a TESTSET. Leaders are
+// marked by 1, and so are the words that are a jump target or a skip.
+pub fn use_verdict(
+    words: &[u32],
+    captured: &[u8],
+    leaders: &[u8],
+    targets: &[u8],
+    i: usize,
+) -> Verdict
+    ensures { λ r. ⌜ ((p : Proto) → Surveyed p (now (words .entry)) (now (captured .entry)) (now (leaders .entry)) (now (targets .entry)) → verdictOf r ≡ useVerdict p i) ⌝ }
+{
+    if words.len() <= i {
+        return Verdict::Fine;
+    }
+    if results_unused(words, leaders, i) | results_missing(words, leaders, i) {
+        return Verdict::Results(i);
+    }
+    if captures_missing(words, captured, leaders, i) {
+        return Verdict::Captures(i);
+    }
+    if (opcode_of(word_at(words, i)) == TESTSET) & marked(targets, i + 1) {
+        return Verdict::Shared(i);
+    }
+    Verdict::Fine
+}
+
+// The first verdict on a word among the others that is not fine.
+fn uses_verdict(words: &[u32], captured: &[u8], leaders: &[u8], targets: &[u8]) -> Verdict
+    ensures { λ r. ⌜ ((p : Proto) → Surveyed p (now (words .entry)) (now (captured .entry)) (now (leaders .entry)) (now (targets .entry)) → verdictOf r ≡ firstRefusal (useVerdict p) 0 (size p)) ⌝ }
+{
+    let mut i = 0;
+    while i < words.len() {
+        let verdict = use_verdict(words, captured, leaders, targets, i);
+        let Verdict::Fine = verdict else {
+            return verdict;
+        };
+        i += 1;
+    }
+    Verdict::Fine
+}
+
+// ------------------------------------------------------------ all of them
+
+// The place of refusal 8 among n words.
+fn last_place(n: usize) -> usize
+    ensures { λ r. ⌜ r ≡ n - 1 ⌝ }
+{
+    if n == 0 {
+        return 0;
+    }
+    n - 1
+}
+
+// The verdict on a function's head, and on each of its words by itself.
+pub fn check_words(head: Head, words: &[u32], kinds: &[u8], nested: &[u32]) -> Verdict
+    ensures { λ r. ⌜ ((p : Proto) (us : List ℕ) → Stands p head (now (words .entry)) (now (kinds .entry)) (now (nested .entry)) us → verdictOf r ≡ checkWords p) ⌝ }
+{
+    if head_fault(head, words) {
+        return Verdict::Head;
+    }
+    if last_fault(words) {
+        return Verdict::Last(last_place(words.len()));
+    }
+    words_verdict(head, words, kinds, nested)
+}
+
+// The verdict on a function of which `check_words` found nothing: that on each word among the others. Its leaders, up to one
+// past its words, are marked by 1. As many places are lent for the marks of jump targets and skips.
+pub fn check_uses(words: &[u32], captured: &[u8], leaders: &[u8], targets: &mut [u8]) -> Verdict
+    ensures { λ r. ⌜ ((p : Proto) → p .words ≡ now (words .entry) → p .captured ≡ now (captured .entry) → checkWords p ≡ fine → Marked (leader p) (size p) (now (leaders .entry)) → size p < length (now (targets .entry)) → verdictOf r ≡ check p) ⌝ }
+{
+    mark_reached(words, targets);
+    uses_verdict(words, captured, leaders, targets)
+}
+
+// The verdict on a function. Its leaders, up to one past its words, are marked by 1, unless `check_words` finds a fault; as many
+// places are lent for the marks of jump targets and skips.
+pub fn check(
+    head: Head,
+    words: &[u32],
+    kinds: &[u8],
+    nested: &[u32],
+    captured: &[u8],
+    leaders: &[u8],
+    targets: &mut [u8],
+) -> Verdict
+    ensures { λ r. ⌜ ((p : Proto) → Stands p head (now (words .entry)) (now (kinds .entry)) (now (nested .entry)) (now (captured .entry)) → (checkWords p ≡ fine → Marked (leader p) (size p) (now (leaders .entry))) → size p < length (now (targets .entry)) → verdictOf r ≡ check p) ⌝ }
+{
+    let verdict = check_words(head, words, kinds, nested);
+    let Verdict::Fine = verdict else {
+        return verdict;
+    };
+    check_uses(words, captured, leaders, targets)
 }
