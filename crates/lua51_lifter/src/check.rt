@@ -97,12 +97,14 @@ pub fn word_verdict(head: Head, words: &[u32], kinds: &[u8], nested: &[u32], i: 
     ensures { λ r. ⌜ ((p : Proto) (us : List ℕ) → Stands p head (now (words .entry)) (now (kinds .entry)) (now (nested .entry)) us → verdictOf r ≡ wordVerdict p i) ⌝ }
 {
     let instruction = decode(word_at(words, i));
-    if operand_fault(instruction, head, kinds, nested) {
-        return Verdict::Operand(i);
-    }
     let row = instruction.row;
     let flow = row.flow;
-    if !lands_inside(flow, words, i, instruction.c) {
+    let outside = operand_fault(instruction, head, kinds, nested);
+    let lands = lands_inside(flow, words, i, instruction.c);
+    if outside {
+        return Verdict::Operand(i);
+    }
+    if !lands {
         return Verdict::Target(i);
     }
     if asks(flow) & (opcode_of(word_behind(words, i)) != JMP) {
