@@ -1,10 +1,13 @@
-// Runs recorded chunks through the walk and holds its answers to the records of data/cases, whose form README.md gives. Writes
-// how many agree and how many differ, and the index of the first that differs.
+// Runs recorded chunks through the walk and the judgement, and holds the answers to the records of data/cases, whose form
+// README.md gives. Writes how many agree and how many differ, and the index of the first that differs.
+use lua51_checker::check::Verdict;
 use lua51_deserializer::bytes::int_at;
 use lua51_deserializer::chunk::Functions;
 use lua51_deserializer::chunk::Walked;
 use lua51_deserializer::chunk::walk;
 use lua51_deserializer::fields::Cursor;
+use reading::Answer;
+use reading::judge;
 ghost use Prim.Native.Nat.{_<_, _^_};
 ghost use Rattle.io.specs.Counts.{Counts};
 
@@ -15,13 +18,14 @@ enum Outcome {
     End,
 }
 
-// A refusal's number and place; both 0 where there is none.
+// A refusal's number, function and place; all 0 where there is none.
 struct Refusal {
     number: u32,
+    function: u32,
     place: usize,
 }
 
-// A record begins with seven numbers of four bytes, at these offsets; the last three, of the judgement, are passed over here.
+// A record begins with seven numbers of four bytes, at these offsets: of the walk, from NUMBER on, and of the judgement.
 const HEAD_SIZE: usize = 28;
 
 const LENGTH: usize = 0;
@@ -31,6 +35,12 @@ const NUMBER: usize = 4;
 const PLACE: usize = 8;
 
 const COUNT: usize = 12;
+
+const JUDGED_NUMBER: usize = 16;
+
+const JUDGED_FUNCTION: usize = 20;
+
+const JUDGED_PLACE: usize = 24;
 
 // Then come three numbers for each function, at these offsets.
 const FUNCTION_SIZE: usize = 12;
@@ -67,22 +77,40 @@ fn read_part(fd: i32, buf: &mut [u8], size: usize) -> usize
     io::read_full(fd, &mut buf[..size])
 }
 
+// A refusal by its number, at a place of a function.
+fn refused_at(number: u32, function: u32, place: usize) -> Refusal {
+    Refusal {
+        number,
+        function,
+        place,
+    }
+}
+
 // The refusal that a reading ended with.
 fn refusal_of(c: Cursor) -> Refusal {
     match c {
-        Cursor::Here(_) => Refusal {
-            number: 0,
-            place: 0,
-        },
-        Cursor::TooLong => Refusal {
-            number: 1,
-            place: 0,
-        },
-        Cursor::HeaderDiffers(place) => Refusal { number: 2, place },
-        Cursor::Ended(place) => Refusal { number: 3, place },
-        Cursor::OutOfRange(place) => Refusal { number: 4, place },
-        Cursor::TooManyFunctions(place) => Refusal { number: 5, place },
-        Cursor::LeftOver(place) => Refusal { number: 6, place },
+        Cursor::Here(_) => refused_at(0, 0, 0),
+        Cursor::TooLong => refused_at(1, 0, 0),
+        Cursor::HeaderDiffers(place) => refused_at(2, 0, place),
+        Cursor::Ended(place) => refused_at(3, 0, place),
+        Cursor::OutOfRange(place) => refused_at(4, 0, place),
+        Cursor::TooManyFunctions(place) => refused_at(5, 0, place),
+        Cursor::LeftOver(place) => refused_at(6, 0, place),
+    }
+}
+
+// The refusal that the check of function f found.
+fn refusal_in(f: u32, verdict: Verdict) -> Refusal {
+    match verdict {
+        Verdict::Fine => refused_at(0, f, 0),
+        Verdict::Head => refused_at(7, f, 0),
+        Verdict::Last(place) => refused_at(8, f, place),
+        Verdict::Operand(place) => refused_at(9, f, place),
+        Verdict::Target(place) => refused_at(10, f, place),
+        Verdict::Jump(place) => refused_at(11, f, place),
+        Verdict::Results(place) => refused_at(12, f, place),
+        Verdict::Captures(place) => refused_at(13, f, place),
+        Verdict::Shared(place) => refused_at(14, f, place),
     }
 }
 
@@ -126,7 +154,32 @@ fn same_walk(walked: Walked, head: &[u8], recorded: &[u8]) -> bool {
     same_functions(functions, count, recorded)
 }
 
-// The next record: read, walked and compared. One that is not whole differs.
+// Whether a refusal is the one that the record has for the judgement.
+fn same_refusal(refused: Refusal, head: &[u8]) -> bool {
+    if refused.number != int_at(head, JUDGED_NUMBER) {
+        return false;
+    }
+    if refused.function != int_at(head, JUDGED_FUNCTION) {
+        return false;
+    }
+    refused.place == number_at(head, JUDGED_PLACE)
+}
+
+// Whether the judgement is the recorded one. Of an accepted chunk it is the count of functions, which is the walk's.
+fn same_judgement(answer: Answer, head: &[u8]) -> bool {
+    match answer {
+        Answer::Given(count) => {
+            if count != number_at(head, COUNT) {
+                return false;
+            }
+            same_refusal(refused_at(0, 0, 0), head)
+        }
+        Answer::Chunk(cursor) => same_refusal(refusal_of(cursor), head),
+        Answer::Function(f, verdict) => same_refusal(refusal_in(f, verdict), head),
+    }
+}
+
+// The next record: read, walked, judged and compared. One that is not whole differs.
 fn record(fd: i32) -> Outcome {
     let mut head = [0u8; HEAD_SIZE];
     let got = io::read_full(fd, &mut head);
@@ -147,7 +200,10 @@ fn record(fd: i32) -> Outcome {
     if n != length {
         return Outcome::Differs;
     }
-    if same_walk(walk(&chunk[..n]), &head, &recorded) {
+    if !same_walk(walk(&chunk[..n]), &head, &recorded) {
+        return Outcome::Differs;
+    }
+    if same_judgement(judge(&chunk[..n]), &head) {
         Outcome::Agrees
     } else {
         Outcome::Differs

@@ -1,0 +1,115 @@
+-- Laws by which the code judges a chunk: its functions one after the other, and each in the buffers. Assumes nothing.
+use mathlib.Core.Path.{_≡_, refl, sym, _∙_, ap}
+use mathlib.Core.List.{List, _∷_, []}
+use Prim.Native.Nat.{ℕ, suc, _+_, _-_, _≤_, _<_}
+use native.Mathlib.Omega.{arith}
+use lib.ListN.{length}
+use types.Run.{OneOf}
+use denote.Enum.Declared.{tagOf}
+use Rattle.lua51_deserializer.specs.Chunk.{here, Place, Walk, walk, protoAt, most, most-words, most-functions}
+use Rattle.lua51_deserializer.specs.Function.{heldOf, Loads, Holds}
+use Rattle.lua51_deserializer.specs.Proto.{Proto, size}
+use Rattle.lua51_deserializer.specs.Walked.{walkOf}
+use Rattle.lua51_deserializer.specs.declared.chunk.Functions.{Functions}
+use Rattle.lua51_deserializer.specs.declared.chunk.Walked.{Walked}
+use Rattle.lua51_deserializer.specs.declared.fields.Cursor.the-variants.{Here}
+use Rattle.lua51_deserializer.specs.declared.function.Loaded.{Loaded}
+use Rattle.lua51_deserializer.proofs.Cursor.{refusals, refusal}
+use Rattle.lua51_deserializer.proofs.Places.{places-length}
+use Rattle.lua51_deserializer.proofs.WholeChunk.{whole-chunk}
+use Rattle.lua51_deserializer.proofs.WholeFunction.{holds-each}
+use Rattle.lua51_deserializer.proofs.fields.Cursor.{the-type}
+use Rattle.cfg.specs.Arrays.{table, mark}
+use Rattle.cfg.specs.Graph.{leader}
+use Rattle.cfg.proofs.Tables.{table-at}
+use Rattle.lua51_lifter.specs.Check.{Verdict, fine, wrong, _else_, check}
+use Rattle.lua51_checker.specs.Judgement.{verdictOf, Marked}
+use Rattle.lua51_checker.specs.declared.check.Verdict as found
+use Rattle.lua51_checker.specs.declared.check.Verdict.the-variants.{Fine}
+use Rattle.lua51_checker.proofs.Judging.{refuses}
+use Rattle.lua51_checker.proofs.check.Verdict.{the-type as verdict-type}
+use Rattle.reading.specs.Reading.{Answer, given, judged, judgeFrom, judgeRead, judge}
+use Rattle.reading.specs.Judging.{answerOf, Whole, Ready}
+use Rattle.reading.specs.declared.Answer.the-variants.{Chunk, Function}
+
+-- ------------------------------------------------------------ a chunk that was read whole
+
+module _ {s : List ℕ} {functions : Functions} (whole : Whole s functions) where
+  pub read-whole : walk s .read ≡ here (whole .end)
+  read-whole = sym (ap (λ (w : Walk). w .read) (whole .walk))
+
+  pub count-whole : length (walk s .places) ≡ functions .count
+  count-whole = sym (ap (λ (w : Walk). length (w .places)) (whole .walk)) ∙ places-length functions
+
+  pub few-functions : functions .count ≤ most-functions
+  few-functions = omega (arith, count-whole, whole-chunk s (whole .end) read-whole .functions)
+
+  -- its judgement is that of its functions
+  pub judge-whole : judgeFrom s (walk s .places) 0 (functions .count - 0) ≡ judge s
+  unfolding judge judgeRead
+  judge-whole = let e : functions .count - 0 ≡ functions .count = omega arith in rw (e, read-whole, count-whole)
+
+-- a function is held whole by buffers with room
+pub holds-function : {s : List ℕ} {functions : Functions} {f : ℕ} {r : Loaded} {ws ws′ ks ks′ cs cs′ ns ns′ us us′ ls ts : List ℕ} → Ready s functions f ws ks cs ns us ls ts
+    → Loads s (heldOf functions) f r ws ws′ ks ks′ cs cs′ ns ns′ us us′ → Holds s (walk s .places) f r ws′ ks′ cs′ ns′ us′
+holds-function {s} {functions} {f} {r} {ws} {ws′} {ks} {ks′} {cs} {cs′} {ns} {ns′} {us} {us′} ready =
+    let end = ready .whole .end in
+    holds-each s (record { cursor = Here end; functions = functions }) end f r ws ws′ ks ks′ cs cs′ ns ns′ us us′
+    (ready .whole .walk) refl (ready .below) (ready .lists)
+
+-- ------------------------------------------------------------ a chunk that was not
+
+module _ (s : List ℕ) (w : Walked) (e : walkOf w ≡ walk s) where
+  -- what its reading ended with is its judgement
+  pub judge-refused : OneOf refusals (tagOf the-type (w .cursor)) → answerOf (Chunk (w .cursor)) ≡ judge s
+  unfolding judge judgeRead
+  judge-refused h =
+      let (n, p, q) = refusal (w .cursor) h in
+      rw (sym (ap (λ (v : Walk). v .read) e) ∙ q) (rw q)
+
+  pub whole-of : (at : ℕ) → w .cursor ≡ Here at → Whole s (w .functions)
+  whole-of at h = record { end = at; walk = rw h at e }
+
+-- ------------------------------------------------------------ one function after the other
+
+-- the answer for the functions behind one that is refused does not matter
+refused-alike : (f : ℕ) (v : Verdict) (a b : Answer) → v else wrong 0 0 ≡ v → judged f v a ≡ judged f v b
+refused-alike f fine a b e = let z : _≡_ {A = ℕ} 0 1 = cc in absurd (omega arith)
+refused-alike f (wrong n p) a b e = refl
+
+-- of n functions those before f are accepted; v is what was found in f
+module _ (s : List ℕ) (ps : List Place) (n f : ℕ) (v : found.Verdict) (below : f < n) (e : verdictOf v ≡ check (protoAt s ps f)) where
+  abbrev rest : Answer
+  rest = judgeFrom s ps (f + 1) (n - (f + 1))
+
+  judge-turn : judgeFrom s ps f (n - f) ≡ judged f (verdictOf v) rest
+  unfolding judgeFrom
+  judge-turn = let m : n - f ≡ suc (n - (f + 1)) = omega arith in rw (m, e)
+
+  pub function-refused : OneOf (1 ∷ 2 ∷ 3 ∷ 4 ∷ 5 ∷ 6 ∷ 7 ∷ 8 ∷ []) (tagOf verdict-type v) → answerOf (Function f v) ≡ judgeFrom s ps f (n - f)
+  function-refused h = refused-alike f (verdictOf v) (given 0) rest (refuses v (wrong 0 0) h) ∙ sym judge-turn
+
+  pub function-passed : v ≡ Fine → rest ≡ judgeFrom s ps f (n - f)
+  function-passed h = sym (judge-turn ∙ rw h)
+
+-- no function is left
+pub functions-passed : (s : List ℕ) (ps : List Place) (n f : ℕ) → n ≤ f → judgeFrom s ps f (n - f) ≡ given (length ps)
+unfolding judgeFrom
+functions-passed s ps n f h = let z : n - f ≡ 0 = omega arith in rw z
+
+-- ------------------------------------------------------------ the marks of a function's leaders
+
+pub leaders-marked : (p : Proto) (marks : List ℕ) (n : ℕ) → size p < n → marks ≡ table (mark p) n → Marked (leader p) (size p) marks
+leaders-marked p marks n below h j l = rw h (table-at (mark p) n j (omega arith))
+
+-- ------------------------------------------------------------ the buffers
+
+-- each buffer is as long as it was made
+pub record Buffers (ws ks cs ns us ls ts : List ℕ) : Type 0 where
+  pub words : most-words ≡ length ws
+  pub kinds : most ≡ length ks
+  pub places : most ≡ length cs
+  pub nested : most-functions ≡ length ns
+  pub captured : most-functions ≡ length us
+  pub leaders : most-words + 1 ≡ length ls
+  pub targets : most-words + 1 ≡ length ts
