@@ -52,10 +52,10 @@ module _ {s : List ℕ} {functions : Functions} (whole : Whole s functions) wher
 -- a function is held whole by buffers with room
 pub holds-function : {s : List ℕ} {functions : Functions} {f : ℕ} {r : Loaded} {ws ws′ ks ks′ cs cs′ ns ns′ us us′ ls ts : List ℕ} → Ready s functions f ws ks cs ns us ls ts
     → Loads s (heldOf functions) f r ws ws′ ks ks′ cs cs′ ns ns′ us us′ → Holds s (walk s .places) f r ws′ ks′ cs′ ns′ us′
-holds-function {s} {functions} {f} {r} {ws} {ws′} {ks} {ks′} {cs} {cs′} {ns} {ns′} {us} {us′} ready =
+holds-function {s} {functions} {f} {r} {ws} {ws′} {ks} {ks′} {cs} {cs′} {ns} {ns′} {us} {us′} ready loads =
     let end = ready .whole .end in
     holds-each s (record { cursor = Here end; functions = functions }) end f r ws ws′ ks ks′ cs cs′ ns ns′ us us′
-    (ready .whole .walk) refl (ready .below) (ready .lists)
+    (ready .whole .walk) refl (ready .below) loads (ready .lists)
 
 -- ------------------------------------------------------------ a chunk that was not
 
