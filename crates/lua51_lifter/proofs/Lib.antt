@@ -3,3 +3,5 @@ pub mod Accepted
 pub mod Blocks
 pub mod Fronts
 pub mod Examples
+pub mod Operands
+pub mod Arms
