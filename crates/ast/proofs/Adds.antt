@@ -18,6 +18,10 @@ unfolding adds
 adds-append b [] y = refl
 adds-append b (n ∷ x) y = adds-append (add b n) x y
 
+-- one writer after another
+pub adds-then : (b : Buffer) {c d : Buffer} (x y : List ℕ) → c ≡ adds b x → d ≡ adds c y → d ≡ adds b (x ++ y)
+adds-then b x y first second = second ∙ (ap (λ (z : Buffer). adds z y) first ∙ sym (adds-append b x y))
+
 pub adds-none : (b : Buffer) → adds b [] ≡ b
 unfolding adds
 adds-none b = refl

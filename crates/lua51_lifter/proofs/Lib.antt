@@ -5,3 +5,5 @@ pub mod Fronts
 pub mod Examples
 pub mod Operands
 pub mod Arms
+pub mod Operations
+pub mod Open

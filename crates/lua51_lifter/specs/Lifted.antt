@@ -1,15 +1,34 @@
 -- What the lifting code writes of a word's statements: the run of one of them, and the lines of all.
-use Prim.Native.Nat.{ℕ}
+use Prim.Native.Nat.{ℕ, _+_, _-_}
+use mathlib.Core.Bool.{cond}
 use mathlib.Core.List.{List, [], _∷_}
+use lib.Dec.{eqb}
 use lib.ListN.{getD, take}
+use Rattle.lua51_deserializer.specs.Word.{VARARG, numberOf, fieldOpcode, fieldA, fieldB}
 use Rattle.lines.specs.Line.{line, letter-S}
 use Rattle.lua51_deserializer.specs.Proto.{Proto, opAt}
-use Rattle.ast.specs.Statement.{Stmt, close, run}
+use Rattle.ast.specs.Statement.{Stmt, Expr, Exprs, register, call, vararg, []ᵉ, registers, close, count, exprs, run}
 use Rattle.lua51_lifter.specs.Lift.{statementsBy}
 
 -- the numbers of 'R(r) gets an expression', whose numbers are xs
 abbrev pub assigned : ℕ → List ℕ → List ℕ
 assigned r xs = 1 ∷ 1 ∷ 1 ∷ 1 ∷ r ∷ xs
+
+-- the numbers of an assignment of one value to the n registers from r on, up to the value
+abbrev pub targets : ℕ → ℕ → List ℕ
+targets r n = 1 ∷ n ∷ 1 ∷ exprs (registers r n []ᵉ)
+
+-- how many expressions a list has, and their numbers
+abbrev pub counted : Exprs → List ℕ
+counted xs = count xs ∷ exprs xs
+
+-- the same of the registers from a slot to below an opener's A and the open tail behind them, up to that tail
+abbrev pub below : ℕ → ℕ → List ℕ
+below slot opener = (opener - slot + 1) ∷ exprs (registers slot (opener - slot) []ᵉ)
+
+-- the open results of a word that takes none itself
+unfoldable pub lastOf : ℕ → Expr
+lastOf w = cond (eqb (fieldOpcode w) (numberOf VARARG)) vararg (call (register (fieldA w)) (registers (fieldA w + 1) (fieldB w - 1) []ᵉ))
 
 -- the numbers of statement k of a list that has it
 abbrev pub runAt : List Stmt → ℕ → List ℕ

@@ -3,17 +3,23 @@ ghost use Prim.Native.Nat.{ℕ, _+_, _-_, _≤_, _<_};
 ghost use mathlib.Core.Path.{_≡_};
 ghost use mathlib.Core.List.{[], _∷_};
 ghost use lib.ListN.{length, getD};
-ghost use Rattle.lua51_deserializer.specs.Word.{opOf, SELF};
+ghost use Rattle.lua51_deserializer.specs.Word.{opOf};
+ghost use Rattle.lua51_deserializer.specs.Word as op;
+ghost use Rattle.lua51_deserializer.specs.Range.{over, only};
 ghost use Rattle.lua51_deserializer.specs.Proto.{Proto, word};
 ghost use Rattle.lua51_deserializer.specs.Instruction.{Decodes};
-ghost use Rattle.ast.specs.Statement.{expr};
+ghost use Rattle.ast.specs.Statement.{expr, register, registers, []ᵉ, binary, if-statement};
+ghost use Rattle.ast.specs.Statement as statement;
 ghost use Rattle.ast.specs.Buffer.{buffer, adds};
-ghost use Rattle.lua51_lifter.specs.Lift.{rk, statementsBy};
-ghost use Rattle.lua51_lifter.specs.Lifted.{assigned, runAt};
+ghost use Rattle.lua51_lifter.specs.Lift.{rk, condition, concatenated, opened, statementsBy};
+ghost use Rattle.lua51_lifter.specs.Lifted.{assigned, targets, counted, below, lastOf, runAt};
 use lua51_deserializer::argument::RegisterOrConstant;
 use lua51_deserializer::argument::register_or_constant;
 use lua51_deserializer::instruction::Instruction;
+use lua51_deserializer::instruction::a_of;
+use lua51_deserializer::instruction::b_of;
 use lua51_deserializer::instruction::decode;
+use lua51_deserializer::instruction::opcode_of;
 use ast::push_all;
 use ast::push_registers;
 
@@ -21,6 +27,20 @@ use ast::push_registers;
 
 // The number that each kind of statement begins with.
 const ASSIGN: u32 = 1;
+
+const CALL_ALONE: u32 = 2;
+
+const IF: u32 = 3;
+
+const RETURN_VALUES: u32 = 4;
+
+const FOR_INIT: u32 = 5;
+
+const FOR_NEXT: u32 = 6;
+
+const SET_LIST: u32 = 7;
+
+const CLOSE_REGISTERS: u32 = 8;
 
 // The number that each kind of expression begins with.
 const REGISTER: u32 = 1;
@@ -41,7 +61,34 @@ const UNARY: u32 = 8;
 
 const BINARY: u32 = 9;
 
+const CALL_OF: u32 = 10;
+
+const VARARGS: u32 = 11;
+
+const CLOSURE_OF: u32 = 12;
+
 const TABLE: u32 = 13;
+
+const SELECT: u32 = 14;
+
+// The number of each operator.
+const NEGATED: u32 = 1;
+
+const MINUS: u32 = 2;
+
+const LENGTH: u32 = 3;
+
+const ADDED: u32 = 1;
+
+const JOINED: u32 = 7;
+
+const EQUAL: u32 = 8;
+
+const UNEQUAL: u32 = 9;
+
+const LESS: u32 = 10;
+
+const LESS_OR_EQUAL: u32 = 11;
 
 // ------------------------------------------------------------ opcodes
 
@@ -68,6 +115,46 @@ const SETTABLE: u8 = 9;
 const NEWTABLE: u8 = 10;
 
 const SELF: u8 = 11;
+
+const ADD: u8 = 12;
+
+const POW: u8 = 17;
+
+const UNM: u8 = 18;
+
+const NOT: u8 = 19;
+
+const LEN: u8 = 20;
+
+const CONCAT: u8 = 21;
+
+const EQ: u8 = 23;
+
+const LT: u8 = 24;
+
+const LE: u8 = 25;
+
+const TEST: u8 = 26;
+
+const TESTSET: u8 = 27;
+
+const CALL: u8 = 28;
+
+const RETURN: u8 = 30;
+
+const FORLOOP: u8 = 31;
+
+const FORPREP: u8 = 32;
+
+const TFORLOOP: u8 = 33;
+
+const SETLIST: u8 = 34;
+
+const CLOSE: u8 = 35;
+
+const CLOSURE: u8 = 36;
+
+const VARARG: u8 = 37;
 
 // ------------------------------------------------------------ operands
 
@@ -116,7 +203,7 @@ fn set_register(run: &mut [u32], r: u32, value: &[u32]) -> usize
 // Writes statement k of SELF: R(A+1) gets R(B), then R(A) gets R(B)[RK(C)].
 fn self_access(run: &mut [u32], w: Instruction, k: u32) -> usize
     ensures { λ r. ⌜ ((p : Proto) (i : ℕ) → Decodes (word p i) w → k < 2
-        → buffer (now (run .exit)) r ≡ adds (buffer (now (run .entry)) 0) (runAt (statementsBy p i SELF) k)) ⌝ }
+        → buffer (now (run .exit)) r ≡ adds (buffer (now (run .entry)) 0) (runAt (statementsBy p i op.SELF) k)) ⌝ }
 {
     let a = w.a as u32;
     let b = w.b as u32;
@@ -152,4 +239,238 @@ fn access(run: &mut [u32], w: Instruction, k: u32) -> usize
         NEWTABLE => set_register(run, a, &[TABLE]),
         _ => self_access(run, w, k),
     }
+}
+
+// ------------------------------------------------------------ operations
+
+// x - y, or 0 where y is the larger.
+fn less(x: u16, y: u16) -> u16
+    ensures { λ r. ⌜ r ≡ x - y ⌝ }
+{
+    if x < y {
+        return 0;
+    }
+    x - y
+}
+
+// Writes R(first) to R(first + more), joined from the right.
+fn push_joined(run: &mut [u32], used: usize, first: u16, more: u16) -> usize
+    ensures { λ r. ⌜ buffer (now (run .exit)) r ≡ adds (buffer (now (run .entry)) used) (expr (concatenated first more)) ⌝ }
+{
+    let mut next = used;
+    let mut register = first as u32;
+    let mut left = more;
+    while 0 < left {
+        next = push_all(run, next, &[BINARY, JOINED, REGISTER, register]);
+        register += 1;
+        left -= 1;
+    }
+    push_all(run, next, &[REGISTER, register])
+}
+
+// Writes the statement of CONCAT.
+fn join(run: &mut [u32], w: Instruction) -> usize
+    ensures { λ r. ⌜ ((p : Proto) (i : ℕ) → Decodes (word p i) w
+        → buffer (now (run .exit)) r ≡ adds (buffer (now (run .entry)) 0) (runAt (statementsBy p i op.CONCAT) 0)) ⌝ }
+{
+    let used = set_register(run, w.a as u32, &[]);
+    push_joined(run, used, w.b, less(w.c, w.b))
+}
+
+// Writes the statement of an opcode from ADD to POW.
+fn arithmetic(run: &mut [u32], w: Instruction) -> usize
+    requires { ⌜ 12 ≤ w .opcode ⌝ }
+    ensures { λ r. ⌜ ((p : Proto) (i : ℕ) → Decodes (word p i) w → w .opcode ≤ 17
+        → buffer (now (run .exit)) r ≡ adds (buffer (now (run .entry)) 0) (runAt (statementsBy p i (opOf (w .opcode))) 0)) ⌝ }
+{
+    let operator = (w.opcode - ADD) as u32 + ADDED;
+    let left = operand(w.b);
+    let right = operand(w.c);
+    set_register(run, w.a as u32, &[BINARY, operator, left.kind, left.number, right.kind, right.number])
+}
+
+// Writes the statement of an opcode from ADD to CONCAT.
+fn operation(run: &mut [u32], w: Instruction) -> usize
+    requires { ⌜ 12 ≤ w .opcode ⌝ }
+    ensures { λ r. ⌜ ((p : Proto) (i : ℕ) → Decodes (word p i) w → w .opcode ≤ 21
+        → buffer (now (run .exit)) r ≡ adds (buffer (now (run .entry)) 0) (runAt (statementsBy p i (opOf (w .opcode))) 0)) ⌝ }
+{
+    let a = w.a as u32;
+    let b = w.b as u32;
+    let opcode = w.opcode;
+    if opcode <= POW {
+        return arithmetic(run, w);
+    }
+    match opcode {
+        UNM => set_register(run, a, &[UNARY, MINUS, REGISTER, b]),
+        NOT => set_register(run, a, &[UNARY, NEGATED, REGISTER, b]),
+        LEN => set_register(run, a, &[UNARY, LENGTH, REGISTER, b]),
+        _ => join(run, w),
+    }
+}
+
+// ------------------------------------------------------------ tests
+
+// Writes 'if RK(B) operator RK(C)', under Not where A is 0.
+fn comparison(run: &mut [u32], w: Instruction, operator: u32) -> usize
+    ensures { λ r. ⌜ buffer (now (run .exit)) r
+        ≡ adds (buffer (now (run .entry)) 0) (statement.run (if-statement (condition (w .a) (binary operator (rk (w .b)) (rk (w .c)))))) ⌝ }
+{
+    let left = operand(w.b);
+    let right = operand(w.c);
+    if w.a == 0 {
+        return push_all(run, 0, &[IF, UNARY, NEGATED, BINARY, operator, left.kind, left.number, right.kind, right.number]);
+    }
+    push_all(run, 0, &[IF, BINARY, operator, left.kind, left.number, right.kind, right.number])
+}
+
+// Writes 'if R(r)', under Not where the flag is 0.
+fn truth(run: &mut [u32], flag: u16, r: u32) -> usize
+    ensures { λ used. ⌜ buffer (now (run .exit)) used ≡ adds (buffer (now (run .entry)) 0) (statement.run (if-statement (condition flag (register r)))) ⌝ }
+{
+    if flag == 0 {
+        return push_all(run, 0, &[IF, UNARY, NEGATED, REGISTER, r]);
+    }
+    push_all(run, 0, &[IF, REGISTER, r])
+}
+
+// Writes the statement of an opcode from EQ to TESTSET.
+fn test(run: &mut [u32], w: Instruction) -> usize
+    ensures { λ r. ⌜ ((p : Proto) (i : ℕ) → Decodes (word p i) w → 23 ≤ w .opcode → w .opcode ≤ 27
+        → buffer (now (run .exit)) r ≡ adds (buffer (now (run .entry)) 0) (runAt (statementsBy p i (opOf (w .opcode))) 0)) ⌝ }
+{
+    let opcode = w.opcode;
+    match opcode {
+        EQ => comparison(run, w, EQUAL),
+        LT => comparison(run, w, LESS),
+        LE => comparison(run, w, LESS_OR_EQUAL),
+        TEST => truth(run, w.c, w.a as u32),
+        _ => truth(run, w.c, w.b as u32),
+    }
+}
+
+// ------------------------------------------------------------ assignments to several registers
+
+// Writes the head and the left side of an assignment of one value to `count` registers from `first` on.
+fn push_targets(run: &mut [u32], first: u16, count: u16) -> usize
+    ensures { λ r. ⌜ buffer (now (run .exit)) r ≡ adds (buffer (now (run .entry)) 0) (targets first count) ⌝ }
+{
+    let used = push_all(run, 0, &[ASSIGN, count as u32, 1]);
+    push_registers(run, used, first, count)
+}
+
+// Writes statement k of TFORLOOP: its call, then its test.
+fn generic_loop(run: &mut [u32], w: Instruction, k: u32) -> usize
+    ensures { λ r. ⌜ ((p : Proto) (i : ℕ) → Decodes (word p i) w → k < 2
+        → buffer (now (run .exit)) r ≡ adds (buffer (now (run .entry)) 0) (runAt (statementsBy p i op.TFORLOOP) k)) ⌝ }
+{
+    let a = w.a as u32;
+    if 0 < k {
+        return push_all(run, 0, &[IF, BINARY, UNEQUAL, REGISTER, a + 3, NIL]);
+    }
+    let used = push_targets(run, w.a as u16 + 3, w.c);
+    push_all(run, used, &[CALL_OF, REGISTER, a, 2, REGISTER, a + 1, REGISTER, a + 2])
+}
+
+// Writes the statement of VARARG whose results are not open.
+fn variable_arguments(run: &mut [u32], w: Instruction) -> usize
+    ensures { λ r. ⌜ ((p : Proto) (i : ℕ) → Decodes (word p i) w → 0 < w .b
+        → buffer (now (run .exit)) r ≡ adds (buffer (now (run .entry)) 0) (runAt (statementsBy p i op.VARARG) 0)) ⌝ }
+{
+    let used = push_targets(run, w.a as u16, less(w.b, 1));
+    push_all(run, used, &[SELECT, VARARGS])
+}
+
+// Writes the numbers from `first` on, `count` of them.
+fn push_range(run: &mut [u32], used: usize, first: u16, count: u16) -> usize
+    ensures { λ r. ⌜ buffer (now (run .exit)) r ≡ adds (buffer (now (run .entry)) used) (over only first count) ⌝ }
+{
+    let mut next = used;
+    let mut number = first as u32;
+    let mut left = count;
+    while 0 < left {
+        next = push_all(run, next, &[number]);
+        number += 1;
+        left -= 1;
+    }
+    next
+}
+
+// Writes 'close' of the registers from `first` to below the stack's end.
+fn close(run: &mut [u32], first: u8, stack: u8) -> usize
+    ensures { λ r. ⌜ buffer (now (run .exit)) r
+        ≡ adds (buffer (now (run .entry)) 0) (statement.run (statement.close (over only first (stack - first)))) ⌝ }
+{
+    let count = less(stack as u16, first as u16);
+    let used = push_all(run, 0, &[CLOSE_REGISTERS, count as u32]);
+    push_range(run, used, first as u16, count)
+}
+
+// ------------------------------------------------------------ open results
+
+// Writes how many values a user of open results takes, and those below its opener's A: registers from `slot` on. The open
+// results themselves are counted, and are written behind.
+fn push_below(run: &mut [u32], used: usize, slot: u16, opener: u8) -> usize
+    ensures { λ r. ⌜ buffer (now (run .exit)) r ≡ adds (buffer (now (run .entry)) used) (below slot opener) ⌝ }
+{
+    let room = less(opener as u16, slot);
+    let next = push_all(run, used, &[room as u32 + 1]);
+    push_registers(run, next, slot, room)
+}
+
+// Writes how many values a word takes whose results are not open, and those: B - 1 registers from `slot` on.
+fn push_counted(run: &mut [u32], used: usize, slot: u16, b: u16) -> usize
+    ensures { λ r. ⌜ buffer (now (run .exit)) r ≡ adds (buffer (now (run .entry)) used) (counted (registers slot (b - 1) []ᵉ)) ⌝ }
+{
+    let count = less(b, 1);
+    let next = push_all(run, used, &[count as u32]);
+    push_registers(run, next, slot, count)
+}
+
+// Writes the call of R(a) with arguments that are not open.
+fn push_closed(run: &mut [u32], used: usize, a: u8, b: u16) -> usize
+    ensures { λ r. ⌜ buffer (now (run .exit)) r
+        ≡ adds (buffer (now (run .entry)) used) (expr (statement.call (register a) (registers (a + 1) (b - 1) []ᵉ))) ⌝ }
+{
+    let next = push_all(run, used, &[CALL_OF, REGISTER, a as u32]);
+    push_counted(run, next, a as u16 + 1, b)
+}
+
+// Writes a call of R(a) whose last argument is open, up to that argument.
+fn push_link(run: &mut [u32], used: usize, a: u8, opener: u8) -> usize
+    ensures { λ r. ⌜ buffer (now (run .exit)) r ≡ adds (buffer (now (run .entry)) used) (10 ∷ 1 ∷ a ∷ below (a + 1) opener) ⌝ }
+{
+    let next = push_all(run, used, &[CALL_OF, REGISTER, a as u32]);
+    push_below(run, next, a as u16 + 1, opener)
+}
+
+// Writes the open results of a word that takes no open results itself: variable arguments, or a call.
+fn push_last(run: &mut [u32], used: usize, word: u32) -> usize
+    ensures { λ r. ⌜ buffer (now (run .exit)) r ≡ adds (buffer (now (run .entry)) used) (expr (lastOf word)) ⌝ }
+{
+    if opcode_of(word) == VARARG {
+        return push_all(run, used, &[VARARGS]);
+    }
+    push_closed(run, used, a_of(word), b_of(word))
+}
+
+// Writes the open results of word j. Where it is a call that takes open results itself, those of the word before it follow.
+fn push_open(run: &mut [u32], used: usize, words: &[u32], j: usize) -> usize
+    ensures { λ r. ⌜ ((p : Proto) → p .words ≡ now (words .entry)
+        → buffer (now (run .exit)) r ≡ adds (buffer (now (run .entry)) used) (expr (opened p j))) ⌝ }
+{
+    let mut next = used;
+    let mut at = j;
+    while 0 < at {
+        let word = word_at(words, at);
+        if opcode_of(word) == VARARG {
+            return push_last(run, next, word);
+        }
+        if 0 < b_of(word) {
+            return push_last(run, next, word);
+        }
+        at -= 1;
+        next = push_link(run, next, a_of(word), a_of(word_at(words, at)));
+    }
+    push_last(run, next, word_at(words, 0))
 }

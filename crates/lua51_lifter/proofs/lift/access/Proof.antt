@@ -241,7 +241,7 @@ unfolding opOf statementsBy
 returns-12 c p i d le h =
     let m = c .before .before .before .before in
     let a = m .before .before .before .before .before .before .args in
-    let last : a .w .opcode ≡ 11 = omega (arith, missed (a .w .opcode) 11 (m .match .rest)) in
+    let last : a .w .opcode ≡ 11 = omega (arith, missed (a .w .opcode) 0 11 (omega arith) (m .match .rest)) in
     let below : a .k < 2 = rw last at h in
     rw last (c .before .before .self-access .ensures p i d below)
 
