@@ -1,53 +1,49 @@
+-- `push_last` meets its contract. Assumes nothing.
+use mathlib.Core.Path.{_∙_, sym}
+use borrow.Author.Tests.{eq-eqb, ne-eqb}
+use Rattle.ast.specs.Statement.{expr}
+use Rattle.lua51_lifter.specs.Lifted.{lastOf}
 use borrow.Author.Needs.{needs}
 use Rattle.lua51_lifter.proofs.lift.push_last.Statement.{statement}
 use Rattle.lua51_lifter.proofs.lift.push_last.Tie as tie
-use Rattle.lua51_lifter.proofs.lift.push_last.Reads as reads
-use Rattle.lua51_lifter.proofs.lift.push_last.Lts as lts
-use Rattle.ast.proofs.push_all.Reads as push-all-reads
-use Rattle.lua51_deserializer.proofs.instruction.a_of.Reads as a-of-reads
-use Rattle.lua51_deserializer.proofs.instruction.b_of.Reads as b-of-reads
-use Rattle.lua51_deserializer.proofs.instruction.opcode_of.Reads as opcode-of-reads
-use Rattle.lua51_lifter.proofs.lift.push_closed.Reads as push-closed-reads
 
--- src/lift.rt:451:8
 opcode-of-requires : tie.Need-opcode-of-requires
 opcode-of-requires c κs = search needs
 
--- src/lift.rt:452:36
 slice-aggregate-push-all : tie.Need-slice-aggregate-push-all
 slice-aggregate-push-all c = search needs
 
--- src/lift.rt:452:9
 push-all-requires : tie.Need-push-all-requires
 push-all-requires c κs = search needs
 
--- src/lift.rt:452:9
 same-length : tie.Need-same-length
 same-length c = search needs
 
--- src/lift.rt:452:9
 returns : tie.Need-returns
-returns c = ?
+unfolding lastOf expr
+returns c =
+    let t = c .before .before .before .before .before in
+    rw (eq-eqb _ _ (sym (t .before .opcode-of .ensures) ∙ t .if1 .taken)) (c .before .before .push-all .ensures)
 
--- src/lift.rt:454:28
 a-of-requires : tie.Need-a-of-requires
 a-of-requires c κs = search needs
 
--- src/lift.rt:454:40
 b-of-requires : tie.Need-b-of-requires
 b-of-requires c κs = search needs
 
--- src/lift.rt:454:5
 push-closed-requires : tie.Need-push-closed-requires
 push-closed-requires c κs = search needs
 
--- src/lift.rt:448:1
 same-length-2 : tie.Need-same-length-2
 same-length-2 c = search needs
 
--- src/lift.rt:448:1
 returns-2 : tie.Need-returns-2
-returns-2 c = ?
+unfolding lastOf
+returns-2 c =
+    let b = c .before .before .before in
+    let t = b .before .before .before in
+    rw (ne-eqb _ _ (λ e. t .if1 .left (t .before .opcode-of .ensures ∙ e)), ← b .before .a-of .ensures, ← b .b-of .ensures)
+    (c .before .before .push-closed .ensures)
 
 pub push-last-spec : {M : Type 1} → statement M
 push-last-spec =
