@@ -7,3 +7,4 @@ pub mod Operands
 pub mod Arms
 pub mod Operations
 pub mod Open
+pub mod Captures

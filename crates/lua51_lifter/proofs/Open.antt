@@ -1,5 +1,5 @@
 -- Laws of open results: variable arguments, a call, and a call that takes open results itself. Assumes nothing.
-use Prim.Native.Nat.{ℕ, zero, suc, _+_, _-_, _<_}
+use Prim.Native.Nat.{ℕ, zero, suc, _+_, _-_, _*_, _<_}
 use mathlib.Core.Path.{_≡_, refl, sym, ap, _∙_}
 use mathlib.Core.List.{[], _∷_, _++_, append-nil}
 use native.Mathlib.Omega.{arith}
@@ -8,12 +8,12 @@ use lib.Dec.{eqb}
 use borrow.Author.Tests.{eq-eqb, ne-eqb, eqb-true}
 use Rattle.lua51_deserializer.specs.Word.{VARARG, numberOf}
 use Rattle.lua51_deserializer.specs.Proto.{Proto, word, opcode, is, A, B}
-use Rattle.ast.specs.Statement.{Expr, vararg, call, register, registers, []ᵉ, one, count, expr, exprs}
+use Rattle.ast.specs.Statement.{Expr, Exprs, vararg, call, register, registers, []ᵉ, one, count, expr, exprs, Tail, set-list, run, tailNumbers}
 use Rattle.ast.specs.Buffer.{Buffer, adds}
 use Rattle.ast.proofs.Adds.{adds-append}
-use Rattle.ast.proofs.Registers.{exprs-registers, count-registers}
+use Rattle.ast.proofs.Registers.{exprs-registers, count-registers, count-registers-alone}
 use Rattle.lua51_lifter.specs.Lift.{opened, taken}
-use Rattle.lua51_lifter.specs.Lifted.{below, lastOf}
+use Rattle.lua51_lifter.specs.Lifted.{below, lastOf, listed}
 
 module _ (p : Proto) where
   -- variable arguments
@@ -47,6 +47,15 @@ module _ (p : Proto) where
   unfolding count exprs
   tail-numbers slot opener x = rw (count-registers, exprs-registers slot (opener - slot) (one x), append-nil)
 
+  -- what a word takes
+  pub taken-closed : (i slot : ℕ) (tail : Exprs) → 0 < B p i → taken p i slot tail ≡ registers slot (B p i - 1) []ᵉ
+  unfolding taken
+  taken-closed i slot tail some = rw (ne-eqb (B p i) 0 (λ e. omega arith))
+
+  pub taken-open : (i slot : ℕ) (tail : Exprs) → B p i ≡ 0 → taken p i slot tail ≡ registers slot (A p (i - 1) - slot) tail
+  unfolding taken
+  taken-open i slot tail none = rw (eq-eqb (B p i) 0 none)
+
   link-numbers : (j : ℕ) → (opcode p (suc j) ≡ numberOf VARARG → ⊥) → B p (suc j) ≡ 0
       → expr (opened p (suc j)) ≡ (10 ∷ 1 ∷ A p (suc j) ∷ below (A p (suc j) + 1) (A p j)) ++ expr (opened p j)
   unfolding opened taken expr
@@ -61,3 +70,8 @@ module _ (p : Proto) where
   opened-link b (suc j) some not none =
       let before : suc j - 1 ≡ j = omega arith in
       rw (before, link-numbers j not none) (adds-append b (10 ∷ 1 ∷ A p (suc j) ∷ below (A p (suc j) + 1) (A p j)) (expr (opened p j)))
+
+-- a set list: what stands before its tail
+pub list-numbers : (a c n : ℕ) (t : Tail) → run (set-list a ((c - 1) * 50 + 1) (registers (a + 1) n []ᵉ) t) ≡ listed a c n ++ tailNumbers t
+unfolding run
+list-numbers a c n t = rw (count-registers-alone (a + 1) n)

@@ -1,5 +1,5 @@
 -- What the lifting code writes of a word's statements: the run of one of them, and the lines of all.
-use Prim.Native.Nat.{ℕ, _+_, _-_}
+use Prim.Native.Nat.{ℕ, _+_, _-_, _*_}
 use mathlib.Core.Bool.{cond}
 use mathlib.Core.List.{List, [], _∷_}
 use lib.Dec.{eqb}
@@ -25,6 +25,10 @@ counted xs = count xs ∷ exprs xs
 -- the same of the registers from a slot to below an opener's A and the open tail behind them, up to that tail
 abbrev pub below : ℕ → ℕ → List ℕ
 below slot opener = (opener - slot + 1) ∷ exprs (registers slot (opener - slot) []ᵉ)
+
+-- the numbers of a set list of n registers, up to its tail, where a and c are the word's A and C
+abbrev pub listed : ℕ → ℕ → ℕ → List ℕ
+listed a c n = 7 ∷ a ∷ ((c - 1) * 50 + 1) ∷ n ∷ exprs (registers (a + 1) n []ᵉ)
 
 -- the open results of a word that takes none itself
 unfoldable pub lastOf : ℕ → Expr

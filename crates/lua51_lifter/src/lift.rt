@@ -3,16 +3,18 @@ ghost use Prim.Native.Nat.{ℕ, _+_, _-_, _≤_, _<_};
 ghost use mathlib.Core.Path.{_≡_};
 ghost use mathlib.Core.List.{[], _∷_};
 ghost use lib.ListN.{length, getD};
-ghost use Rattle.lua51_deserializer.specs.Word.{opOf};
+ghost use mathlib.Core.Bool.{cond};
+ghost use lib.Dec.{eqb, ltb};
+ghost use Rattle.lua51_deserializer.specs.Word.{opOf, fieldOpcode};
 ghost use Rattle.lua51_deserializer.specs.Word as op;
 ghost use Rattle.lua51_deserializer.specs.Range.{over, only};
 ghost use Rattle.lua51_deserializer.specs.Proto.{Proto, word};
 ghost use Rattle.lua51_deserializer.specs.Instruction.{Decodes};
-ghost use Rattle.ast.specs.Statement.{expr, register, registers, []ᵉ, binary, if-statement};
+ghost use Rattle.ast.specs.Statement.{expr, exprs, register, registers, []ᵉ, binary, if-statement};
 ghost use Rattle.ast.specs.Statement as statement;
 ghost use Rattle.ast.specs.Buffer.{buffer, adds};
-ghost use Rattle.lua51_lifter.specs.Lift.{rk, condition, concatenated, opened, statementsBy};
-ghost use Rattle.lua51_lifter.specs.Lifted.{assigned, targets, counted, below, lastOf, runAt};
+ghost use Rattle.lua51_lifter.specs.Lift.{rk, condition, concatenated, captures, taken, opened, callWith, tailFor, statementsBy};
+ghost use Rattle.lua51_lifter.specs.Lifted.{assigned, targets, counted, below, lastOf, listed, runAt, given};
 use lua51_deserializer::argument::RegisterOrConstant;
 use lua51_deserializer::argument::register_or_constant;
 use lua51_deserializer::instruction::Instruction;
@@ -128,6 +130,8 @@ const LEN: u8 = 20;
 
 const CONCAT: u8 = 21;
 
+const JMP: u8 = 22;
+
 const EQ: u8 = 23;
 
 const LT: u8 = 24;
@@ -139,6 +143,8 @@ const TEST: u8 = 26;
 const TESTSET: u8 = 27;
 
 const CALL: u8 = 28;
+
+const TAILCALL: u8 = 29;
 
 const RETURN: u8 = 30;
 
@@ -473,4 +479,237 @@ fn push_open(run: &mut [u32], used: usize, words: &[u32], j: usize) -> usize
         next = push_link(run, next, a_of(word), a_of(word_at(words, at)));
     }
     push_last(run, next, word_at(words, 0))
+}
+
+// The word before word i; of word 0, itself.
+fn word_before(i: usize) -> usize
+    ensures { λ r. ⌜ r ≡ i - 1 ⌝ }
+{
+    if 0 < i {
+        return i - 1;
+    }
+    0
+}
+
+// Writes how many values word i takes from `slot` on, and those: with B 0 the open results of the word before it are the last.
+fn push_taken(run: &mut [u32], used: usize, words: &[u32], i: usize, slot: u16) -> usize
+    ensures { λ r. ⌜ ((p : Proto) → p .words ≡ now (words .entry)
+        → buffer (now (run .exit)) r ≡ adds (buffer (now (run .entry)) used) (counted (taken p i slot (tailFor p i)))) ⌝ }
+{
+    let b = b_of(word_at(words, i));
+    if 0 < b {
+        return push_counted(run, used, slot, b);
+    }
+    let j = word_before(i);
+    let next = push_below(run, used, slot, a_of(word_at(words, j)));
+    push_open(run, next, words, j)
+}
+
+// Writes the call of word i.
+fn push_call(run: &mut [u32], used: usize, words: &[u32], i: usize) -> usize
+    ensures { λ r. ⌜ ((p : Proto) → p .words ≡ now (words .entry)
+        → buffer (now (run .exit)) r ≡ adds (buffer (now (run .entry)) used) (expr (callWith p i (tailFor p i)))) ⌝ }
+{
+    let a = a_of(word_at(words, i));
+    let next = push_all(run, used, &[CALL_OF, REGISTER, a as u32]);
+    push_taken(run, next, words, i, a as u16 + 1)
+}
+
+// Writes the statement of CALL whose results are not open: the call alone, or an assignment of its results.
+fn call(run: &mut [u32], words: &[u32], i: usize, w: Instruction) -> usize
+    ensures { λ r. ⌜ ((p : Proto) → p .words ≡ now (words .entry) → Decodes (word p i) w → 0 < w .c
+        → buffer (now (run .exit)) r ≡ adds (buffer (now (run .entry)) 0) (runAt (statementsBy p i op.CALL) 0)) ⌝ }
+{
+    if w.c == 1 {
+        let used = push_all(run, 0, &[CALL_ALONE]);
+        return push_call(run, used, words, i);
+    }
+    let used = push_targets(run, w.a as u16, less(w.c, 1));
+    let next = push_all(run, used, &[SELECT]);
+    push_call(run, next, words, i)
+}
+
+// Writes the statement of RETURN.
+fn return_values(run: &mut [u32], words: &[u32], i: usize, w: Instruction) -> usize
+    ensures { λ r. ⌜ ((p : Proto) → p .words ≡ now (words .entry) → Decodes (word p i) w
+        → buffer (now (run .exit)) r ≡ adds (buffer (now (run .entry)) 0) (runAt (statementsBy p i op.RETURN) 0)) ⌝ }
+{
+    let used = push_all(run, 0, &[RETURN_VALUES]);
+    push_taken(run, used, words, i, w.a as u16)
+}
+
+// How many values one block of a SETLIST sets at most.
+const VALUES_OF_A_BLOCK: u32 = 50;
+
+// Writes a set list of `count` registers, up to its tail.
+fn push_list(run: &mut [u32], w: Instruction, count: u16) -> usize
+    ensures { λ r. ⌜ buffer (now (run .exit)) r ≡ adds (buffer (now (run .entry)) 0) (listed (w .a) (w .c) count) ⌝ }
+{
+    let index = less(w.c, 1) as u32 * VALUES_OF_A_BLOCK + 1;
+    let used = push_all(run, 0, &[SET_LIST, w.a as u32, index, count as u32]);
+    push_registers(run, used, w.a as u16 + 1, count)
+}
+
+// Writes the statement of SETLIST.
+fn set_list(run: &mut [u32], words: &[u32], i: usize, w: Instruction) -> usize
+    ensures { λ r. ⌜ ((p : Proto) → p .words ≡ now (words .entry) → Decodes (word p i) w
+        → buffer (now (run .exit)) r ≡ adds (buffer (now (run .entry)) 0) (runAt (statementsBy p i op.SETLIST) 0)) ⌝ }
+{
+    if 0 < w.b {
+        let used = push_list(run, w, w.b);
+        return push_all(run, used, &[0]);
+    }
+    let j = word_before(i);
+    let used = push_list(run, w, less(a_of(word_at(words, j)) as u16, w.a as u16 + 1));
+    let next = push_all(run, used, &[1]);
+    push_open(run, next, words, j)
+}
+
+// ------------------------------------------------------------ closures
+
+// The place behind a word. Past the words every place holds the same, and this one stays.
+fn place_behind(words: &[u32], at: usize) -> usize
+    ensures { λ r. ⌜ r ≡ cond (ltb at (length (now (words .entry)))) (at + 1) at ⌝ }
+{
+    if at < words.len() {
+        return at + 1;
+    }
+    at
+}
+
+// The kind of expression that a capturing word gives: MOVE a register, any other an upvalue.
+fn capture_kind(word: u32) -> u32
+    ensures { λ r. ⌜ r ≡ cond (eqb (fieldOpcode word) 0) 1 5 ⌝ }
+{
+    if opcode_of(word) == MOVE {
+        return REGISTER;
+    }
+    UPVALUE
+}
+
+// Writes what the `count` words behind word i capture.
+fn push_captures(run: &mut [u32], used: usize, words: &[u32], i: usize, count: u8) -> usize
+    ensures { λ r. ⌜ ((p : Proto) → p .words ≡ now (words .entry)
+        → buffer (now (run .exit)) r ≡ adds (buffer (now (run .entry)) used) (exprs (captures p i count))) ⌝ }
+{
+    let mut next = used;
+    let mut at = i;
+    let mut left = count;
+    while 0 < left {
+        at = place_behind(words, at);
+        let word = word_at(words, at);
+        next = push_all(run, next, &[capture_kind(word), b_of(word) as u32]);
+        left -= 1;
+    }
+    next
+}
+
+// Byte i of a list; 0 past its end.
+fn byte_of(bytes: &[u8], i: usize) -> u8
+    ensures { λ r. ⌜ r ≡ getD (now (bytes .entry)) i 0 ⌝ }
+{
+    if i < bytes.len() {
+        return bytes[i];
+    }
+    0
+}
+
+// Writes the statement of CLOSURE.
+fn closure(run: &mut [u32], words: &[u32], nested: &[u32], captured: &[u8], i: usize, w: Instruction) -> usize
+    ensures { λ r. ⌜ ((p : Proto) → p .words ≡ now (words .entry) → p .nested ≡ now (nested .entry) → p .captured ≡ now (captured .entry)
+        → Decodes (word p i) w
+        → buffer (now (run .exit)) r ≡ adds (buffer (now (run .entry)) 0) (runAt (statementsBy p i op.CLOSURE) 0)) ⌝ }
+{
+    let which = w.bx as usize;
+    let count = byte_of(captured, which);
+    let used = set_register(run, w.a as u32, &[CLOSURE_OF, word_at(nested, which), count as u32]);
+    push_captures(run, used, words, i, count)
+}
+
+// ------------------------------------------------------------ the statements of a word
+
+// How many registers LOADNIL sets: R(a) to R(b).
+fn nils(a: u8, b: u16) -> u32
+    ensures { λ r. ⌜ r ≡ b + 1 - a ⌝ }
+{
+    let first = a as u32;
+    let past = b as u32 + 1;
+    if past < first {
+        return 0;
+    }
+    past - first
+}
+
+// 0 of 0, and 1 of any other number.
+fn some(x: u16) -> u32
+    ensures { λ r. ⌜ r ≡ cond (eqb x 0) 0 1 ⌝ }
+{
+    if x == 0 {
+        return 0;
+    }
+    1
+}
+
+// How many statements a word gives.
+fn statement_count(w: Instruction) -> u32
+    ensures few { λ r. ⌜ r ≤ 65536 ⌝ }
+    ensures count { λ r. ⌜ ((p : Proto) (i : ℕ) → Decodes (word p i) w → r ≡ length (statementsBy p i (opOf (w .opcode)))) ⌝ }
+{
+    let opcode = w.opcode;
+    if VARARG < opcode {
+        return 0;
+    }
+    match opcode {
+        LOADNIL => nils(w.a, w.b),
+        SELF => 2,
+        JMP => 0,
+        CALL => some(w.c),
+        TAILCALL => 0,
+        TFORLOOP => 2,
+        VARARG => some(w.b),
+        _ => 1,
+    }
+}
+
+// Writes statement k of word i, which has more than k, where its opcode is from CALL on.
+fn late(run: &mut [u32], stack: u8, words: &[u32], nested: &[u32], captured: &[u8], i: usize, w: Instruction, k: u32) -> usize
+    ensures { λ r. ⌜ ((p : Proto) → p .words ≡ now (words .entry) → p .nested ≡ now (nested .entry) → p .captured ≡ now (captured .entry)
+        → p .stack ≡ stack → Decodes (word p i) w → 28 ≤ w .opcode → k < length (statementsBy p i (opOf (w .opcode)))
+        → buffer (now (run .exit)) r ≡ adds (buffer (now (run .entry)) 0) (runAt (statementsBy p i (opOf (w .opcode))) k)) ⌝ }
+{
+    let a = w.a as u32;
+    let opcode = w.opcode;
+    match opcode {
+        RETURN => return_values(run, words, i, w),
+        FORLOOP => push_all(run, 0, &[FOR_NEXT, a, a + 1, a + 2]),
+        FORPREP => push_all(run, 0, &[FOR_INIT, a, a + 1, a + 2]),
+        TFORLOOP => generic_loop(run, w, k),
+        SETLIST => set_list(run, words, i, w),
+        CLOSE => close(run, w.a, stack),
+        CLOSURE => closure(run, words, nested, captured, i, w),
+        VARARG => variable_arguments(run, w),
+        CALL => call(run, words, i, w),
+        _ => 0,
+    }
+}
+
+// Writes statement k of word i, which has more than k.
+fn statement(run: &mut [u32], stack: u8, words: &[u32], nested: &[u32], captured: &[u8], i: usize, k: u32) -> usize
+    requires { ⌜ k ≤ 65536 ⌝ }
+    ensures { λ r. ⌜ ((p : Proto) → p .words ≡ now (words .entry) → p .nested ≡ now (nested .entry) → p .captured ≡ now (captured .entry)
+        → p .stack ≡ stack → k < length (given p i)
+        → buffer (now (run .exit)) r ≡ adds (buffer (now (run .entry)) 0) (runAt (given p i) k)) ⌝ }
+{
+    let w = decode(word_at(words, i));
+    let opcode = w.opcode;
+    if opcode <= SELF {
+        return access(run, w, k);
+    }
+    if opcode <= CONCAT {
+        return operation(run, w);
+    }
+    if opcode <= TESTSET {
+        return test(run, w);
+    }
+    late(run, stack, words, nested, captured, i, w, k)
 }
