@@ -2,14 +2,15 @@
 use Prim.Native.Nat.{ℕ, zero, suc, _+_, _-_, _≤_, _<_}
 use mathlib.Core.Bool.{Bool, true, false, cond}
 use mathlib.Core.Path.{_≡_, refl, sym, ap, _∙_}
-use mathlib.Core.List.{[], _∷_, _++_}
+use mathlib.Core.List.{[], _∷_, _++_, append-nil}
 use native.Mathlib.Omega.{arith}
 use lib.Dec.{ltb}
 use lib.ListN.{getD, List·getD-eq-default}
 use borrow.Author.Tests.{ltb-false}
 use Rattle.lua51_deserializer.specs.Word.{MOVE}
 use Rattle.lua51_deserializer.specs.Proto.{Proto, size, word, is, B}
-use Rattle.ast.specs.Statement.{register, upvalue, []ᵉ, expr, exprs, count}
+use Rattle.ast.specs.Statement.{Exprs, register, upvalue, closure, set-register, run, expr, exprs, count}
+use Rattle.lua51_lifter.specs.Lifted.{assigned}
 use Rattle.ast.specs.Buffer.{Buffer, adds}
 use Rattle.ast.proofs.Adds.{adds-append, adds-none}
 use Rattle.lua51_lifter.specs.Lift.{captures}
@@ -18,6 +19,11 @@ capture-numbers : (b : Bool) (x : ℕ) → expr (cond b (register x) (upvalue x)
 unfolding expr
 capture-numbers true x = refl
 capture-numbers false x = refl
+
+-- a closure: what stands before its captures
+pub closure-numbers : (r f : ℕ) (xs : Exprs) → run (set-register r (closure f xs)) ≡ assigned r (12 ∷ f ∷ count xs ∷ []) ++ exprs xs
+unfolding run count exprs expr
+closure-numbers r f xs = rw append-nil
 
 module _ (p : Proto) where
   pub count-captures : (i n : ℕ) → count (captures p i n) ≡ n

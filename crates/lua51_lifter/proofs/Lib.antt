@@ -8,3 +8,4 @@ pub mod Arms
 pub mod Operations
 pub mod Open
 pub mod Captures
+pub mod Counts

@@ -1,3 +1,9 @@
+-- `closure` meets its contract: the function and the count, then the captures. Assumes nothing.
+use mathlib.Core.Path.{_≡_, sym}
+use Rattle.lua51_deserializer.specs.Proto.{closureOf, capturesOf}
+use Rattle.lua51_lifter.specs.Lift.{statementsBy}
+use Rattle.lua51_lifter.proofs.Captures.{count-captures, closure-numbers}
+use Rattle.ast.proofs.Adds.{adds-then}
 use borrow.Author.Needs.{needs}
 use Rattle.lua51_lifter.proofs.lift.closure.Statement.{statement}
 use Rattle.lua51_lifter.proofs.lift.closure.Tie as tie
@@ -30,7 +36,16 @@ same-length : tie.Need-same-length
 same-length c = search needs
 
 returns : tie.Need-returns
-returns c = search needs
+unfolding statementsBy
+returns c p ws ns us d =
+    let head = c .before .before .before .before .before .before in
+    let number = head .before .before in
+    let many = number .before .before .before in
+    let i = many .before .before .before .before .before .before .args .i in
+    let f : closureOf p i ≡ number .word-at .result = rw (ns, ← d .bx) (sym (number .word-at .ensures)) in
+    let n : capturesOf p i ≡ many .byte-of .result = rw (us, ← d .bx) (sym (many .byte-of .ensures)) in
+    rw (closure-numbers, f, n, count-captures p i (many .byte-of .result), ← d .a)
+    (adds-then _ _ _ (head .set-register .ensures) (c .before .before .push-captures .ensures p ws))
 
 pub closure-spec : {M : Type 1} → statement M
 closure-spec =

@@ -1,156 +1,166 @@
+-- `late` meets its contract: each opcode's statement. Assumes nothing.
+use Prim.Native.Nat.{_<_}
+use mathlib.Core.Path.{_≡_}
+use native.Mathlib.Omega.{arith}
+use Rattle.lua51_deserializer.specs.Word.{opOf}
+use Rattle.lua51_deserializer.specs.Proto.{B, C}
+use Rattle.ast.specs.Statement.{run}
+use Rattle.lua51_lifter.specs.Lift.{statementsBy}
+use Rattle.lua51_lifter.proofs.Counts.{setlist-count, call-count, vararg-count, positive, none-else}
 use borrow.Author.Needs.{needs}
 use Rattle.lua51_lifter.proofs.lift.late.Statement.{statement}
 use Rattle.lua51_lifter.proofs.lift.late.Tie as tie
-use Rattle.lua51_lifter.proofs.lift.late.Reads as reads
-use Rattle.lua51_lifter.proofs.lift.late.Lts as lts
-use Rattle.ast.proofs.push_all.Reads as push-all-reads
-use Rattle.lua51_lifter.proofs.lift.call.Reads as call-reads
-use Rattle.lua51_lifter.proofs.lift.close.Reads as close-reads
-use Rattle.lua51_lifter.proofs.lift.closure.Reads as closure-reads
-use Rattle.lua51_lifter.proofs.lift.generic_loop.Reads as generic-loop-reads
-use Rattle.lua51_lifter.proofs.lift.return_values.Reads as return-values-reads
-use Rattle.lua51_lifter.proofs.lift.set_list.Reads as set-list-reads
-use Rattle.lua51_lifter.proofs.lift.variable_arguments.Reads as variable-arguments-reads
 
--- src/lift.rt:680:13
 cast-a : tie.Need-cast-a
 cast-a c = search needs
 
--- src/lift.rt:683:19
 return-values-requires : tie.Need-return-values-requires
 return-values-requires c κs = search needs
 
--- src/lift.rt:684:52
 add-t17 : tie.Need-add-t17
 add-t17 c = search needs
 
--- src/lift.rt:684:59
 add-t18 : tie.Need-add-t18
 add-t18 c = search needs
 
--- src/lift.rt:684:37
 slice-aggregate-push-all : tie.Need-slice-aggregate-push-all
 slice-aggregate-push-all c = search needs
 
--- src/lift.rt:684:20
 push-all-requires : tie.Need-push-all-requires
 push-all-requires c κs = search needs
 
--- src/lift.rt:685:52
 add-t24 : tie.Need-add-t24
 add-t24 c = search needs
 
--- src/lift.rt:685:59
 add-t25 : tie.Need-add-t25
 add-t25 c = search needs
 
--- src/lift.rt:685:37
 slice-aggregate-push-all-2 : tie.Need-slice-aggregate-push-all-2
 slice-aggregate-push-all-2 c = search needs
 
--- src/lift.rt:685:20
 push-all-requires-2 : tie.Need-push-all-requires-2
 push-all-requires-2 c κs = search needs
 
--- src/lift.rt:686:21
 generic-loop-requires : tie.Need-generic-loop-requires
 generic-loop-requires c κs = search needs
 
--- src/lift.rt:687:20
 set-list-requires : tie.Need-set-list-requires
 set-list-requires c κs = search needs
 
--- src/lift.rt:688:18
 close-requires : tie.Need-close-requires
 close-requires c κs = search needs
 
--- src/lift.rt:689:20
 closure-requires : tie.Need-closure-requires
 closure-requires c κs = search needs
 
--- src/lift.rt:690:19
 variable-arguments-requires : tie.Need-variable-arguments-requires
 variable-arguments-requires c κs = search needs
 
--- src/lift.rt:691:17
 call-requires : tie.Need-call-requires
 call-requires c κs = search needs
 
--- src/lift.rt:675:1
 same-length : tie.Need-same-length
 same-length c = search needs
 
--- src/lift.rt:675:1
 returns : tie.Need-returns
-returns c = ?
+unfolding opOf statementsBy run
+returns c p ws ns us sk d lo h =
+    let m = c .before .before .before .before in
+    let k = m .before .before .before .before .before .before .args .k in
+    let first : k ≡ 0 = let below : k < 1 = rw (m .match .keys1) at h in omega arith in
+    rw (m .match .keys1, first) (c .before .before .return-values .ensures p ws d)
 
--- src/lift.rt:675:1
 same-length-2 : tie.Need-same-length-2
 same-length-2 c = search needs
 
--- src/lift.rt:675:1
 returns-2 : tie.Need-returns-2
-returns-2 c = ?
+unfolding opOf statementsBy run
+returns-2 c p ws ns us sk d lo h =
+    let m = c .before .before .before .before .before in
+    let k = m .before .before .before .before .before .before .args .k in
+    let first : k ≡ 0 = let below : k < 1 = rw (m .match .keys2) at h in omega arith in
+    rw (m .match .keys2, first, ← d .a) (c .before .before .push-all .ensures)
 
--- src/lift.rt:675:1
 same-length-3 : tie.Need-same-length-3
 same-length-3 c = search needs
 
--- src/lift.rt:675:1
 returns-3 : tie.Need-returns-3
-returns-3 c = ?
+unfolding opOf statementsBy run
+returns-3 c p ws ns us sk d lo h =
+    let m = c .before .before .before .before .before in
+    let k = m .before .before .before .before .before .before .args .k in
+    let first : k ≡ 0 = let below : k < 1 = rw (m .match .keys3) at h in omega arith in
+    rw (m .match .keys3, first, ← d .a) (c .before .before .push-all2 .ensures)
 
--- src/lift.rt:675:1
 same-length-4 : tie.Need-same-length-4
 same-length-4 c = search needs
 
--- src/lift.rt:675:1
 returns-4 : tie.Need-returns-4
-returns-4 c = ?
+unfolding opOf statementsBy
+returns-4 c p ws ns us sk d lo h =
+    let m = c .before .before .before .before in
+    let below : m .before .before .before .before .before .before .args .k < 2 = rw (m .match .keys4) at h in
+    rw (m .match .keys4) (c .before .before .generic-loop .ensures p _ d below)
 
--- src/lift.rt:675:1
 same-length-5 : tie.Need-same-length-5
 same-length-5 c = search needs
 
--- src/lift.rt:675:1
 returns-5 : tie.Need-returns-5
-returns-5 c = ?
+unfolding opOf
+returns-5 c p ws ns us sk d lo h =
+    let m = c .before .before .before .before in
+    let a = m .before .before .before .before .before .before .args in
+    let first : a .k ≡ 0 = let below : a .k < 1 = rw (m .match .keys5, setlist-count p (a .i)) at h in omega arith in
+    rw (m .match .keys5, first) (c .before .before .set-list .ensures p ws d)
 
--- src/lift.rt:675:1
 same-length-6 : tie.Need-same-length-6
 same-length-6 c = search needs
 
--- src/lift.rt:675:1
 returns-6 : tie.Need-returns-6
-returns-6 c = ?
+unfolding opOf statementsBy run
+returns-6 c p ws ns us sk d lo h =
+    let m = c .before .before .before .before in
+    let k = m .before .before .before .before .before .before .args .k in
+    let first : k ≡ 0 = let below : k < 1 = rw (m .match .keys6) at h in omega arith in
+    rw (m .match .keys6, first, sk, ← d .a) (c .before .before .close .ensures)
 
--- src/lift.rt:675:1
 same-length-7 : tie.Need-same-length-7
 same-length-7 c = search needs
 
--- src/lift.rt:675:1
 returns-7 : tie.Need-returns-7
-returns-7 c = ?
+unfolding opOf statementsBy run
+returns-7 c p ws ns us sk d lo h =
+    let m = c .before .before .before .before in
+    let k = m .before .before .before .before .before .before .args .k in
+    let first : k ≡ 0 = let below : k < 1 = rw (m .match .keys7) at h in omega arith in
+    rw (m .match .keys7, first) (c .before .before .closure .ensures p ws ns us d)
 
--- src/lift.rt:675:1
 same-length-8 : tie.Need-same-length-8
 same-length-8 c = search needs
 
--- src/lift.rt:675:1
 returns-8 : tie.Need-returns-8
-returns-8 c = ?
+unfolding opOf
+returns-8 c p ws ns us sk d lo h =
+    let m = c .before .before .before .before in
+    let a = m .before .before .before .before .before .before .args in
+    let some = positive (B p (a .i)) (a .k) (rw (m .match .keys8, vararg-count p (a .i)) at h) in
+    rw (m .match .keys8, some .0) (c .before .before .variable-arguments .ensures p _ d (rw (d .b) (some .1)))
 
--- src/lift.rt:675:1
 same-length-9 : tie.Need-same-length-9
 same-length-9 c = search needs
 
--- src/lift.rt:675:1
 returns-9 : tie.Need-returns-9
-returns-9 c = ?
+unfolding opOf
+returns-9 c p ws ns us sk d lo h =
+    let m = c .before .before .before .before in
+    let a = m .before .before .before .before .before .before .args in
+    let some = positive (C p (a .i)) (a .k) (rw (m .match .keys9, call-count p (a .i)) at h) in
+    rw (m .match .keys9, some .0) (c .before .before .call .ensures p ws d (rw (d .c) (some .1)))
 
--- src/lift.rt:675:1
 returns-10 : tie.Need-returns-10
-returns-10 c = ?
+returns-10 c p ws ns us sk d lo h =
+    let a = c .before .before .before .before .before .before .args in
+    absurd (omega (arith, none-else p (a .i) (a .w .opcode) lo (c .match .rest .1) (c .match .rest .0)))
 
 pub late-spec : {M : Type 1} → statement M
 late-spec =

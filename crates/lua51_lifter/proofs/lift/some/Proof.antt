@@ -1,15 +1,14 @@
+-- `some` meets its contract. Assumes nothing.
+use borrow.Author.Tests.{eq-eqb, ne-eqb}
+use borrow.Author.Needs.{needs}
 use Rattle.lua51_lifter.proofs.lift.some.Statement.{statement}
 use Rattle.lua51_lifter.proofs.lift.some.Tie as tie
-use Rattle.lua51_lifter.proofs.lift.some.Reads as reads
-use Rattle.lua51_lifter.proofs.lift.some.Lts as lts
 
--- src/lift.rt:648:9
 returns : tie.Need-returns
-returns c = ?
+returns c = rw (eq-eqb _ _ (c .if1 .taken))
 
--- src/lift.rt:644:1
 returns-2 : tie.Need-returns-2
-returns-2 c = ?
+returns-2 c = rw (ne-eqb _ _ (c .if1 .left))
 
 pub some-spec : {M : Type 1} → statement M
 some-spec = tie.close (tie.spec returns returns-2)
