@@ -48,9 +48,3 @@ pub fn push_registers(run: &mut [u32], used: usize, first: u16, count: u16) -> u
     }
     next
 }
-
-pub fn probe(run: &mut [u32], a: u32, b: u32) -> usize
-    ensures { λ r. ⌜ buffer (now (run .exit)) r ≡ adds (buffer (now (run .entry)) 0) (1 ∷ 1 ∷ a ∷ b ∷ []) ⌝ }
-{
-    push_all(run, 0, &[1, 1, a, b])
-}

@@ -9,7 +9,10 @@ use lib.ListN.{length, List·getD-eq-default}
 use borrow.Author.Tests.{eqb-true, eqb-false, ne-eqb, leb-true}
 use Rattle.lua51_deserializer.specs.Word.{opOf, opcodes, UNKNOWN, CALL, SETLIST, VARARG}
 use Rattle.lua51_deserializer.specs.Range.{only}
-use Rattle.lua51_deserializer.specs.Proto.{Proto, B, C}
+use Rattle.lua51_deserializer.specs.Proto.{Proto, word, B, C}
+use Rattle.lua51_deserializer.specs.Instruction.{Decodes}
+use Rattle.lua51_deserializer.specs.declared.instruction.Instruction.{Instruction}
+use Rattle.lua51_lifter.specs.Lifted.{given}
 use Rattle.lua51_deserializer.proofs.Tests.{either-way}
 use Rattle.lua51_deserializer.proofs.Table.{allBelow, all-below}
 use Rattle.lua51_lifter.specs.Lift.{statementsBy}
@@ -104,3 +107,10 @@ module _ (p : Proto) (i : ℕ) where
     where
       beyond : (o ≡ 29 → ⊥) → 30 ≤ o
       beyond ne = omega arith
+
+-- what a decoded word's count is of the function's word
+pub given-count : (p : Proto) (i n r : ℕ) (w : Instruction) → word p i ≡ r → Decodes r w
+    → ((p : Proto) (i : ℕ) → Decodes (word p i) w → n ≡ length (statementsBy p i (opOf (w .opcode)))) → n ≡ length (given p i)
+given-count p i n r w e d f =
+    let here : Decodes (word p i) w = rw e d in
+    rw (← here .opcode) (f p i here)

@@ -9,3 +9,4 @@ pub mod Operations
 pub mod Open
 pub mod Captures
 pub mod Counts
+pub mod Prints

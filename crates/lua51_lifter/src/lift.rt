@@ -1,7 +1,9 @@
 // The statements of a function's words, as runs of numbers in a lent buffer and as S lines.
 ghost use Prim.Native.Nat.{ℕ, _+_, _-_, _≤_, _<_};
 ghost use mathlib.Core.Path.{_≡_};
-ghost use mathlib.Core.List.{[], _∷_};
+ghost use mathlib.Core.List.{List, [], _∷_, flatMap};
+ghost use Rattle.lines.specs.Out.{output, puts};
+ghost use Rattle.lua51_deserializer.specs.Function.{Stands};
 ghost use lib.ListN.{length, getD};
 ghost use mathlib.Core.Bool.{cond};
 ghost use lib.Dec.{eqb, ltb};
@@ -14,16 +16,18 @@ ghost use Rattle.ast.specs.Statement.{expr, exprs, register, registers, []ᵉ, 
 ghost use Rattle.ast.specs.Statement as statement;
 ghost use Rattle.ast.specs.Buffer.{buffer, adds};
 ghost use Rattle.lua51_lifter.specs.Lift.{rk, condition, concatenated, captures, taken, opened, callWith, tailFor, statementsBy};
-ghost use Rattle.lua51_lifter.specs.Lifted.{assigned, targets, counted, below, lastOf, listed, runAt, given};
+ghost use Rattle.lua51_lifter.specs.Lifted.{assigned, targets, counted, below, lastOf, listed, runAt, given, lineWithin};
+use ast::push_all;
+use ast::push_registers;
+use lines::put_line;
 use lua51_deserializer::argument::RegisterOrConstant;
 use lua51_deserializer::argument::register_or_constant;
+use lua51_deserializer::function::Head;
 use lua51_deserializer::instruction::Instruction;
 use lua51_deserializer::instruction::a_of;
 use lua51_deserializer::instruction::b_of;
 use lua51_deserializer::instruction::decode;
 use lua51_deserializer::instruction::opcode_of;
-use ast::push_all;
-use ast::push_registers;
 
 // ------------------------------------------------------------ numbers of runs
 
@@ -241,7 +245,22 @@ fn access(run: &mut [u32], w: Instruction, k: u32) -> usize
         GETTABLE => set_register(run, a, &[INDEX, REGISTER, b, right.kind, right.number]),
         SETGLOBAL => push_all(run, 0, &[ASSIGN, 1, 1, GLOBAL, w.bx, REGISTER, a]),
         SETUPVAL => push_all(run, 0, &[ASSIGN, 1, 1, UPVALUE, b, REGISTER, a]),
-        SETTABLE => push_all(run, 0, &[ASSIGN, 1, 1, INDEX, REGISTER, a, left.kind, left.number, right.kind, right.number]),
+        SETTABLE => push_all(
+            run,
+            0,
+            &[
+                ASSIGN,
+                1,
+                1,
+                INDEX,
+                REGISTER,
+                a,
+                left.kind,
+                left.number,
+                right.kind,
+                right.number,
+            ],
+        ),
         NEWTABLE => set_register(run, a, &[TABLE]),
         _ => self_access(run, w, k),
     }
@@ -292,7 +311,18 @@ fn arithmetic(run: &mut [u32], w: Instruction) -> usize
     let operator = (w.opcode - ADD) as u32 + ADDED;
     let left = operand(w.b);
     let right = operand(w.c);
-    set_register(run, w.a as u32, &[BINARY, operator, left.kind, left.number, right.kind, right.number])
+    set_register(
+        run,
+        w.a as u32,
+        &[
+            BINARY,
+            operator,
+            left.kind,
+            left.number,
+            right.kind,
+            right.number,
+        ],
+    )
 }
 
 // Writes the statement of an opcode from ADD to CONCAT.
@@ -325,9 +355,35 @@ fn comparison(run: &mut [u32], w: Instruction, operator: u32) -> usize
     let left = operand(w.b);
     let right = operand(w.c);
     if w.a == 0 {
-        return push_all(run, 0, &[IF, UNARY, NEGATED, BINARY, operator, left.kind, left.number, right.kind, right.number]);
+        return push_all(
+            run,
+            0,
+            &[
+                IF,
+                UNARY,
+                NEGATED,
+                BINARY,
+                operator,
+                left.kind,
+                left.number,
+                right.kind,
+                right.number,
+            ],
+        );
     }
-    push_all(run, 0, &[IF, BINARY, operator, left.kind, left.number, right.kind, right.number])
+    push_all(
+        run,
+        0,
+        &[
+            IF,
+            BINARY,
+            operator,
+            left.kind,
+            left.number,
+            right.kind,
+            right.number,
+        ],
+    )
 }
 
 // Writes 'if R(r)', under Not where the flag is 0.
@@ -375,7 +431,11 @@ fn generic_loop(run: &mut [u32], w: Instruction, k: u32) -> usize
         return push_all(run, 0, &[IF, BINARY, UNEQUAL, REGISTER, a + 3, NIL]);
     }
     let used = push_targets(run, w.a as u16 + 3, w.c);
-    push_all(run, used, &[CALL_OF, REGISTER, a, 2, REGISTER, a + 1, REGISTER, a + 2])
+    push_all(
+        run,
+        used,
+        &[CALL_OF, REGISTER, a, 2, REGISTER, a + 1, REGISTER, a + 2],
+    )
 }
 
 // Writes the statement of VARARG whose results are not open.
@@ -615,14 +675,25 @@ fn byte_of(bytes: &[u8], i: usize) -> u8
 }
 
 // Writes the statement of CLOSURE.
-fn closure(run: &mut [u32], words: &[u32], nested: &[u32], captured: &[u8], i: usize, w: Instruction) -> usize
+fn closure(
+    run: &mut [u32],
+    words: &[u32],
+    nested: &[u32],
+    captured: &[u8],
+    i: usize,
+    w: Instruction,
+) -> usize
     ensures { λ r. ⌜ ((p : Proto) → p .words ≡ now (words .entry) → p .nested ≡ now (nested .entry) → p .captured ≡ now (captured .entry)
         → Decodes (word p i) w
         → buffer (now (run .exit)) r ≡ adds (buffer (now (run .entry)) 0) (runAt (statementsBy p i op.CLOSURE) 0)) ⌝ }
 {
     let which = w.bx as usize;
     let count = byte_of(captured, which);
-    let used = set_register(run, w.a as u32, &[CLOSURE_OF, word_at(nested, which), count as u32]);
+    let used = set_register(
+        run,
+        w.a as u32,
+        &[CLOSURE_OF, word_at(nested, which), count as u32],
+    );
     push_captures(run, used, words, i, count)
 }
 
@@ -672,7 +743,16 @@ fn statement_count(w: Instruction) -> u32
 }
 
 // Writes statement k of word i, which has more than k, where its opcode is from CALL on.
-fn late(run: &mut [u32], stack: u8, words: &[u32], nested: &[u32], captured: &[u8], i: usize, w: Instruction, k: u32) -> usize
+fn late(
+    run: &mut [u32],
+    stack: u8,
+    words: &[u32],
+    nested: &[u32],
+    captured: &[u8],
+    i: usize,
+    w: Instruction,
+    k: u32,
+) -> usize
     ensures { λ r. ⌜ ((p : Proto) → p .words ≡ now (words .entry) → p .nested ≡ now (nested .entry) → p .captured ≡ now (captured .entry)
         → p .stack ≡ stack → Decodes (word p i) w → 28 ≤ w .opcode → k < length (statementsBy p i (opOf (w .opcode)))
         → buffer (now (run .exit)) r ≡ adds (buffer (now (run .entry)) 0) (runAt (statementsBy p i (opOf (w .opcode))) k)) ⌝ }
@@ -694,7 +774,15 @@ fn late(run: &mut [u32], stack: u8, words: &[u32], nested: &[u32], captured: &[u
 }
 
 // Writes statement k of word i, which has more than k.
-fn statement(run: &mut [u32], stack: u8, words: &[u32], nested: &[u32], captured: &[u8], i: usize, k: u32) -> usize
+fn statement(
+    run: &mut [u32],
+    stack: u8,
+    words: &[u32],
+    nested: &[u32],
+    captured: &[u8],
+    i: usize,
+    k: u32,
+) -> usize
     requires { ⌜ k ≤ 65536 ⌝ }
     ensures { λ r. ⌜ ((p : Proto) → p .words ≡ now (words .entry) → p .nested ≡ now (nested .entry) → p .captured ≡ now (captured .entry)
         → p .stack ≡ stack → k < length (given p i)
@@ -712,4 +800,33 @@ fn statement(run: &mut [u32], stack: u8, words: &[u32], nested: &[u32], captured
         return test(run, w);
     }
     late(run, stack, words, nested, captured, i, w, k)
+}
+
+// The letter of a statement's line.
+const STATEMENT: u8 = b'S';
+
+// Prints the statements of word i, each as an S line. Each is written into the buffer `run` first; what that holds afterwards is of
+// no use.
+pub fn put_statements(
+    out: &mut [u8],
+    at: usize,
+    run: &mut [u32],
+    head: Head,
+    words: &[u32],
+    nested: &[u32],
+    captured: &[u8],
+    i: usize,
+) -> usize
+    ensures { λ r. ⌜ ((p : Proto) (ks : List ℕ) → Stands p head (now (words .entry)) ks (now (nested .entry)) (now (captured .entry))
+        → output (now (out .exit)) r ≡ puts (output (now (out .entry)) at) (flatMap (lineWithin (length (now (run .entry)))) (given p i))) ⌝ }
+{
+    let count = statement_count(decode(word_at(words, i)));
+    let mut next = at;
+    let mut k = 0;
+    while k < count {
+        let used = statement(run, head.stack, words, nested, captured, i, k);
+        next = put_line(out, next, STATEMENT, &run[..used]);
+        k += 1;
+    }
+    next
 }

@@ -54,11 +54,13 @@ loop-again c =
     let done = c .before .before in
     let w = c .before .before .before .before .before .before .before in
     let l = w .before .before .before .loop in
-    let behind = w .before .place-behind in
-    (search needs, λ p st.
-    let is : word p (behind .result) ≡ w .word-at .result = rw st (sym (w .word-at .ensures)) in
-    let turn = captures-turn p (buffer (l .run) (l .next)) (l .at) (behind .result) (l .left) (search needs) (rw st (behind .ensures)) in
-    rw (done .push-all .ensures, c .before .before .before .before .before .capture-kind .ensures, c .before .before .before .before .b-of .ensures, ← is) (l .inv .1 p st ∙ turn))
+    let behind = w .before .place-behind in (
+      search needs,
+      λ p st.
+          let is : word p (behind .result) ≡ w .word-at .result = rw st (sym (w .word-at .ensures)) in
+          let turn = captures-turn p (buffer (l .run) (l .next)) (l .at) (behind .result) (l .left) (search needs) (rw st (behind .ensures)) in
+          rw (done .push-all .ensures, c .before .before .before .before .before .capture-kind .ensures, c .before .before .before .before .b-of .ensures, ← is) (l .inv .1 p st ∙ turn),
+    )
 
 same-length : tie.Need-same-length Inv-loop μ-loop
 same-length c = search needs

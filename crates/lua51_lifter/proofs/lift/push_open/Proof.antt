@@ -90,12 +90,14 @@ loop-again c =
     let o = e .before .before .before in
     let w = o .before in
     let l = w .before .before .loop in
-    let none : fieldB (w .word-at .result) ≡ 0 = omega (arith, e .before .b-of .ensures, e .if2 .left) in
-    (search needs, λ p st.
-    let is : word p (l .at) ≡ w .word-at .result = rw st (sym (w .word-at .ensures)) in
-    let was : word p (l .at - 1) ≡ before .word-at2 .result = rw st (sym (before .word-at2 .ensures)) in
-    let linked = opened-link p (buffer (l .run) (l .next)) (l .at) (search needs) (λ v. e .before .before .if1 .left (o .opcode-of .ensures ∙ rw is at v)) (rw is none) in
-    rw (link .push-link .ensures, before .before .a-of .ensures, link .before .a-of2 .ensures, ← is, ← was) (l .inv .1 p st ∙ linked))
+    let none : fieldB (w .word-at .result) ≡ 0 = omega (arith, e .before .b-of .ensures, e .if2 .left) in (
+      search needs,
+      λ p st.
+          let is : word p (l .at) ≡ w .word-at .result = rw st (sym (w .word-at .ensures)) in
+          let was : word p (l .at - 1) ≡ before .word-at2 .result = rw st (sym (before .word-at2 .ensures)) in
+          let linked = opened-link p (buffer (l .run) (l .next)) (l .at) (search needs) (λ v. e .before .before .if1 .left (o .opcode-of .ensures ∙ rw is at v)) (rw is none) in
+          rw (link .push-link .ensures, before .before .a-of .ensures, link .before .a-of2 .ensures, ← is, ← was) (l .inv .1 p st ∙ linked),
+    )
 
 word-at-requires-3 : tie.Need-word-at-requires-3 Inv-loop μ-loop
 word-at-requires-3 c κs = search needs

@@ -62,8 +62,13 @@ returns-2 c p st =
     let is : word p (a .i) ≡ w .word-at .result = rw st (sym (w .word-at .ensures)) in
     let none : fieldB (w .word-at .result) ≡ 0 = omega (arith, e .before .b-of .ensures, e .if1 .left) in
     let was : word p (a .i - 1) ≡ before .word-at2 .result = rw (st, ← j .word-before .ensures) (sym (before .word-at2 .ensures)) in
-    rw (taken-open p (a .i) (a .slot) (tailFor p (a .i)) (rw is none), tail-numbers p (a .slot) (A p (a .i - 1)) (opened p (a .i - 1)),
-        was, ← b .before .a-of .ensures, ← j .word-before .ensures)
+    rw (
+      taken-open p (a .i) (a .slot) (tailFor p (a .i)) (rw is none),
+      tail-numbers p (a .slot) (A p (a .i - 1)) (opened p (a .i - 1)),
+      was,
+      ← b .before .a-of .ensures,
+      ← j .word-before .ensures,
+    )
     (adds-then _ _ _ (b .push-below .ensures) (o .push-open .ensures p st))
 
 pub push-taken-spec : {M : Type 1} → statement M

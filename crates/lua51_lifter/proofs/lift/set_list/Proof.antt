@@ -80,8 +80,17 @@ returns-2 c p st d =
     let w = a .w in
     let none : w .b ≡ 0 = omega (arith, e .if1 .left) in
     let was : word p (a .i - 1) ≡ before .word-at .result = rw (st, ← j .word-before .ensures) (sym (before .word-at .ensures)) in
-    rw (← d .a, ← d .b, ← d .c, none, was, ← list .before .before .before .a-of .ensures, ← list .before .less .ensures, ← j .word-before .ensures,
-        list-numbers (w .a) (w .c) (list .before .less .result) (open-tail (opened p (j .word-before .result))))
+    rw (
+      ← d .a,
+      ← d .b,
+      ← d .c,
+      none,
+      was,
+      ← list .before .before .before .a-of .ensures,
+      ← list .before .less .ensures,
+      ← j .word-before .ensures,
+      list-numbers (w .a) (w .c) (list .before .less .result) (open-tail (opened p (j .word-before .result))),
+    )
     (adds-then _ _ _ (list .push-list2 .ensures) (adds-then _ _ _ (c .before .before .before .before .before .before .push-all2 .ensures) (c .before .before .push-open .ensures p st)))
 
 pub set-list-spec : {M : Type 1} → statement M

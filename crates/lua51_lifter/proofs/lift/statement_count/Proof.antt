@@ -28,8 +28,11 @@ some-requires-2 c κs = search needs
 
 returns-2 : tie.Need-returns-2
 unfolding opOf statementsBy
-returns-2 c = (omega (arith, c .nils .ensures), λ p i d.
-    rw (c .before .match .keys1, each-length (λ r. set-register r nil) (A p i) (B p i + 1 - A p i), ← d .a, ← d .b) (c .nils .ensures))
+returns-2 c = (
+  omega (arith, c .nils .ensures),
+  λ p i d.
+      rw (c .before .match .keys1, each-length (λ r. set-register r nil) (A p i) (B p i + 1 - A p i), ← d .a, ← d .b) (c .nils .ensures),
+)
 
 returns-3 : tie.Need-returns-3
 unfolding opOf statementsBy
@@ -58,11 +61,19 @@ returns-8 c = (at-most (c .before .before .before .args .w .b) (c .some2 .ensure
 returns-9 : tie.Need-returns-9
 returns-9 c =
     let o = c .before .before .args .w .opcode in
-    let m = c .match .rest in
-    (search needs, λ p i d.
-    sym (one-each p i o (c .before .if1 .left)
-    (rw (ne-eqb o 3 (m .0 .0 .0 .0 .0 .0 .1), ne-eqb o 11 (m .0 .0 .0 .0 .0 .1), ne-eqb o 22 (m .0 .0 .0 .0 .1), ne-eqb o 28 (m .0 .0 .0 .1),
-        ne-eqb o 29 (m .0 .0 .1), ne-eqb o 33 (m .0 .1)) (ne-eqb o 37 (m .1)))))
+    let m = c .match .rest in (
+      search needs,
+      λ p i d.
+          sym (one-each p i o (c .before .if1 .left)
+          (rw (
+            ne-eqb o 3 (m .0 .0 .0 .0 .0 .0 .1),
+            ne-eqb o 11 (m .0 .0 .0 .0 .0 .1),
+            ne-eqb o 22 (m .0 .0 .0 .0 .1),
+            ne-eqb o 28 (m .0 .0 .0 .1),
+            ne-eqb o 29 (m .0 .0 .1),
+            ne-eqb o 33 (m .0 .1),
+          ) (ne-eqb o 37 (m .1)))),
+    )
 
 pub statement-count-spec : {M : Type 1} → statement M
 statement-count-spec =
