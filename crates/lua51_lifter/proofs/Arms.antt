@@ -1,11 +1,11 @@
 -- Laws for a match on opcodes: what the last arm knows; and a word with several statements. Assumes nothing.
 use Prim.Native.Nat.{ℕ, zero, suc, _+_, _-_, _≤_, _<_}
 use mathlib.Core.List.{[], _∷_, _++_, append-nil}
-use Rattle.ast.specs.Statement.{Expr, registers, []ᵉ, one, assign, run, count, expr, exprs}
+use Rattle.ast.specs.Statement.{Expr, registers, []ᵉ, one, assign, set-register, run, count, expr, exprs}
 use Rattle.ast.specs.Buffer.{Buffer, adds}
 use Rattle.ast.proofs.Adds.{adds-none}
 use Rattle.ast.proofs.Registers.{count-registers-alone}
-use Rattle.lua51_lifter.specs.Lifted.{targets}
+use Rattle.lua51_lifter.specs.Lifted.{assigned, targets}
 use mathlib.Core.Path.{_≡_, refl, ap, _∙_}
 use native.Mathlib.Omega.{arith}
 use lib.ListN.{getD, length}
@@ -48,6 +48,11 @@ pub range-done : (b : Buffer) (r n : ℕ) → n ≤ 0 → adds b (over only r n)
 unfolding over
 range-done b r zero h = adds-none b
 range-done b r (suc n) h = absurd (omega arith)
+
+-- an assignment to one register
+pub set-numbers : (r : ℕ) (x : Expr) → run (set-register r x) ≡ assigned r (expr x)
+unfolding run count exprs expr
+set-numbers r x = rw append-nil
 
 -- an assignment of one value to n registers: what stands before the value
 pub assign-numbers : (r n : ℕ) (x : Expr) → run (assign (registers r n []ᵉ) (one x)) ≡ targets r n ++ expr x

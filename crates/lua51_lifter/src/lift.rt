@@ -302,27 +302,30 @@ fn join(run: &mut [u32], w: Instruction) -> usize
     push_joined(run, used, w.b, less(w.c, w.b))
 }
 
+// The numbers of 'RK(B) operator RK(C)'.
+fn binary_of(w: Instruction, operator: u32) -> [u32; 6]
+    ensures { λ r. ⌜ expr (binary operator (rk (w .b)) (rk (w .c))) ≡ r ⌝ }
+{
+    let first = operand(w.b);
+    let second = operand(w.c);
+    [
+        BINARY,
+        operator,
+        first.kind,
+        first.number,
+        second.kind,
+        second.number,
+    ]
+}
+
 // Writes the statement of an opcode from ADD to POW.
 fn arithmetic(run: &mut [u32], w: Instruction) -> usize
     requires { ⌜ 12 ≤ w .opcode ⌝ }
     ensures { λ r. ⌜ ((p : Proto) (i : ℕ) → Decodes (word p i) w → w .opcode ≤ 17
         → buffer (now (run .exit)) r ≡ adds (buffer (now (run .entry)) 0) (runAt (statementsBy p i (opOf (w .opcode))) 0)) ⌝ }
 {
-    let operator = (w.opcode - ADD) as u32 + ADDED;
-    let left = operand(w.b);
-    let right = operand(w.c);
-    set_register(
-        run,
-        w.a as u32,
-        &[
-            BINARY,
-            operator,
-            left.kind,
-            left.number,
-            right.kind,
-            right.number,
-        ],
-    )
+    let value = binary_of(w, (w.opcode - ADD) as u32 + ADDED);
+    set_register(run, w.a as u32, &value)
 }
 
 // Writes the statement of an opcode from ADD to CONCAT.
@@ -352,38 +355,13 @@ fn comparison(run: &mut [u32], w: Instruction, operator: u32) -> usize
     ensures { λ r. ⌜ buffer (now (run .exit)) r
         ≡ adds (buffer (now (run .entry)) 0) (statement.run (if-statement (condition (w .a) (binary operator (rk (w .b)) (rk (w .c)))))) ⌝ }
 {
-    let left = operand(w.b);
-    let right = operand(w.c);
+    let value = binary_of(w, operator);
     if w.a == 0 {
-        return push_all(
-            run,
-            0,
-            &[
-                IF,
-                UNARY,
-                NEGATED,
-                BINARY,
-                operator,
-                left.kind,
-                left.number,
-                right.kind,
-                right.number,
-            ],
-        );
+        let used = push_all(run, 0, &[IF, UNARY, NEGATED]);
+        return push_all(run, used, &value);
     }
-    push_all(
-        run,
-        0,
-        &[
-            IF,
-            BINARY,
-            operator,
-            left.kind,
-            left.number,
-            right.kind,
-            right.number,
-        ],
-    )
+    let used = push_all(run, 0, &[IF]);
+    push_all(run, used, &value)
 }
 
 // Writes 'if R(r)', under Not where the flag is 0.

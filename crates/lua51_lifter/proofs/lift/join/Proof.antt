@@ -1,6 +1,5 @@
 -- `join` meets its contract. Assumes nothing.
-use mathlib.Core.List.{append-nil}
-use Rattle.ast.specs.Statement.{run, count, exprs, expr}
+use Rattle.lua51_lifter.proofs.Arms.{set-numbers}
 use Rattle.lua51_lifter.specs.Lift.{statementsBy}
 use Rattle.ast.proofs.Adds.{adds-then}
 use borrow.Author.Needs.{needs}
@@ -26,11 +25,11 @@ same-length : tie.Need-same-length
 same-length c = search needs
 
 returns : tie.Need-returns
-unfolding statementsBy run count exprs expr
+unfolding statementsBy
 returns c p i d =
     let from = c .before .before .before in
     let head = from .before .before .before .before in
-    rw (← d .a, ← d .b, ← d .c, append-nil, ← from .less .ensures) (adds-then _ _ _ (head .set-register .ensures) (c .before .before .push-joined .ensures))
+    rw (set-numbers, ← d .a, ← d .b, ← d .c, ← from .less .ensures) (adds-then _ _ _ (head .set-register .ensures) (c .before .before .push-joined .ensures))
 
 pub join-spec : {M : Type 1} → statement M
 join-spec =
