@@ -12,10 +12,11 @@ ghost use Rattle.lua51_deserializer.specs.Word as op;
 ghost use Rattle.lua51_deserializer.specs.Range.{over, only};
 ghost use Rattle.lua51_deserializer.specs.Proto.{Proto, word};
 ghost use Rattle.lua51_deserializer.specs.Instruction.{Decodes};
-ghost use Rattle.ast.specs.Statement.{expr, exprs, register, registers, []ᵉ, binary, if-statement};
+ghost use Rattle.ast.specs.Statement.{expr, exprs, register, registers, []ᵉ, binary, if-statement, set-register};
 ghost use Rattle.ast.specs.Statement as statement;
 ghost use Rattle.ast.specs.Buffer.{buffer, adds};
-ghost use Rattle.lua51_lifter.specs.Lift.{rk, condition, concatenated, captures, taken, opened, callWith, tailFor, statementsBy};
+ghost use Rattle.lua51_lifter.specs.Lift.{rk, condition, concatenated, captures, taken, opened, callWith, tailFor, statementsBy, statements, onThen};
+ghost use Rattle.lua51_lifter.specs.Lift as lift;
 ghost use Rattle.lua51_lifter.specs.Lifted.{assigned, targets, counted, below, lastOf, listed, runAt, given, lineWithin};
 use ast::push_all;
 use ast::push_registers;
@@ -26,6 +27,7 @@ use lua51_deserializer::function::Head;
 use lua51_deserializer::instruction::Instruction;
 use lua51_deserializer::instruction::a_of;
 use lua51_deserializer::instruction::b_of;
+use lua51_deserializer::instruction::bx_of;
 use lua51_deserializer::instruction::decode;
 use lua51_deserializer::instruction::opcode_of;
 
@@ -807,4 +809,108 @@ pub fn put_statements(
         k += 1;
     }
     next
+}
+
+// ------------------------------------------------------------ the assignment on a Then edge
+
+// Prints 'R(r) gets R(x)'.
+fn put_move(out: &mut [u8], at: usize, run: &mut [u32], r: u32, x: u32) -> usize
+    ensures { λ end. ⌜ output (now (out .exit)) end
+        ≡ puts (output (now (out .entry)) at) (lineWithin (length (now (run .entry))) (set-register r (register x))) ⌝ }
+{
+    let used = set_register(run, r, &[REGISTER, x]);
+    put_line(out, at, STATEMENT, &run[..used])
+}
+
+// Prints the assignment that word i has on its Then edge, as an S line; a word that has none prints nothing. What the buffer `run`
+// holds afterwards is of no use.
+pub fn put_on_then(out: &mut [u8], at: usize, run: &mut [u32], words: &[u32], i: usize) -> usize
+    ensures { λ r. ⌜ ((p : Proto) → p .words ≡ now (words .entry)
+        → output (now (out .exit)) r ≡ puts (output (now (out .entry)) at) (flatMap (lineWithin (length (now (run .entry)))) (onThen p i))) ⌝ }
+{
+    let word = word_at(words, i);
+    let a = a_of(word) as u32;
+    let opcode = opcode_of(word);
+    match opcode {
+        TESTSET => put_move(out, at, run, a, b_of(word) as u32),
+        FORLOOP => put_move(out, at, run, a + 3, a),
+        TFORLOOP => put_move(out, at, run, a + 2, a + 3),
+        _ => at,
+    }
+}
+
+// ------------------------------------------------------------ the words of a block
+
+// Prints the statements of word i, of which `pending` words from it on are captures: a capture prints nothing.
+fn put_word(
+    out: &mut [u8],
+    at: usize,
+    run: &mut [u32],
+    head: Head,
+    words: &[u32],
+    nested: &[u32],
+    captured: &[u8],
+    i: usize,
+    pending: u8,
+) -> usize
+    ensures { λ r. ⌜ ((p : Proto) (ks : List ℕ) → Stands p head (now (words .entry)) ks (now (nested .entry)) (now (captured .entry)) → pending ≡ lift.pending p i
+        → output (now (out .exit)) r ≡ puts (output (now (out .entry)) at) (flatMap (lineWithin (length (now (run .entry)))) (statements p i))) ⌝ }
+{
+    if 0 < pending {
+        return at;
+    }
+    put_statements(out, at, run, head, words, nested, captured, i)
+}
+
+// How many words behind word i are captures, where `pending` words from it on are.
+fn pending_behind(words: &[u32], captured: &[u8], i: usize, pending: u8) -> u8
+    ensures { λ r. ⌜ ((p : Proto) → p .words ≡ now (words .entry) → p .captured ≡ now (captured .entry) → pending ≡ lift.pending p i
+        → r ≡ lift.pending p (i + 1)) ⌝ }
+{
+    if 0 < pending {
+        return pending - 1;
+    }
+    let word = word_at(words, i);
+    if opcode_of(word) == CLOSURE {
+        return byte_of(captured, bx_of(word) as usize);
+    }
+    0
+}
+
+// Where the words of a block end in the output, and how many words behind it are captures.
+pub struct Body {
+    pub at: usize,
+    pub pending: u8,
+}
+
+// Prints the statements of the words from `from` to before `past`, where `pending` words from the first on are captures.
+pub fn put_body(
+    out: &mut [u8],
+    at: usize,
+    run: &mut [u32],
+    head: Head,
+    words: &[u32],
+    nested: &[u32],
+    captured: &[u8],
+    from: usize,
+    past: usize,
+    pending: u8,
+) -> Body
+    ensures { λ r. ⌜ ((p : Proto) (ks : List ℕ) → Stands p head (now (words .entry)) ks (now (nested .entry)) (now (captured .entry)) → pending ≡ lift.pending p from
+        → (output (now (out .exit)) (r .at)
+        ≡ puts (output (now (out .entry)) at) (flatMap (lineWithin (length (now (run .entry)))) (over (statements p) from (past - from))))
+        × (r .pending ≡ lift.pending p (from + (past - from)))) ⌝ }
+{
+    let mut next = at;
+    let mut left = pending;
+    let mut i = from;
+    while i < past {
+        next = put_word(out, next, run, head, words, nested, captured, i, left);
+        left = pending_behind(words, captured, i, left);
+        i += 1;
+    }
+    Body {
+        at: next,
+        pending: left,
+    }
 }
