@@ -3,7 +3,7 @@ use Prim.Native.Nat.{ℕ, zero, suc, _+_, _-_, _≤_, _<_}
 use mathlib.Core.Path.{_≡_, refl, ap, _∙_}
 use mathlib.Core.List.{[], _∷_, _++_}
 use native.Mathlib.Omega.{arith}
-use Rattle.ast.specs.Statement.{Exprs, []ᵉ, _∷ᵉ_, registers, count, exprs, expr}
+use Rattle.ast.specs.Statement.{Exprs, []ᵉ, registers, count, exprs, expr}
 use Rattle.ast.specs.Buffer.{Buffer, adds}
 use Rattle.ast.proofs.Adds.{adds-none}
 

@@ -1,7 +1,7 @@
 -- Laws of open results: variable arguments, a call, and a call that takes open results itself. Assumes nothing.
 use Prim.Native.Nat.{ℕ, zero, suc, _+_, _-_, _*_, _<_}
-use mathlib.Core.Path.{_≡_, refl, sym, ap, _∙_}
-use mathlib.Core.List.{[], _∷_, _++_, append-nil}
+use mathlib.Core.Path.{_≡_, refl}
+use mathlib.Core.List.{_∷_, _++_, append-nil}
 use native.Mathlib.Omega.{arith}
 use mathlib.Core.Bool.{Bool, true, false, cond}
 use lib.Dec.{eqb}

@@ -1,11 +1,11 @@
 -- Laws of operations: the opcodes of arithmetic, registers joined from the right, a condition. Assumes nothing.
 use Prim.Native.Nat.{ℕ, zero, suc, _+_, _-_, _≤_, _<_}
-use mathlib.Core.Path.{_≡_, refl, subst}
-use mathlib.Core.List.{List, [], _∷_}
+use mathlib.Core.Path.{_≡_, refl}
+use mathlib.Core.List.{[], _∷_}
 use native.Mathlib.Omega.{arith}
 use Rattle.lua51_deserializer.specs.Word.{opOf}
 use Rattle.lua51_deserializer.specs.Proto.{Proto}
-use Rattle.ast.specs.Statement.{Stmt, expr}
+use Rattle.ast.specs.Statement.{expr}
 use Rattle.ast.specs.Buffer.{Buffer, adds}
 use Rattle.lua51_lifter.specs.Lift.{concatenated, operation, statementsBy}
 

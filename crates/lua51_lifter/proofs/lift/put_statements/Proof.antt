@@ -8,8 +8,7 @@ use mathlib.Core.Path.{_≡_, refl, _∙_, sym}
 use mathlib.Core.List.{List, [], flatMap}
 use lib.ListN.{length, drop}
 use Rattle.lines.specs.Out.{output, puts}
-use Rattle.lua51_deserializer.specs.Proto.{Proto, word}
-use Rattle.lua51_deserializer.specs.Instruction.{Decodes}
+use Rattle.lua51_deserializer.specs.Proto.{Proto}
 use Rattle.lua51_deserializer.specs.Function.{Stands}
 use Rattle.ast.specs.Statement.{close}
 use Rattle.ast.proofs.Adds.{run-within, run-held}

@@ -1,8 +1,8 @@
 -- `set_list` meets its contract: with B 0 the tail is open. Assumes nothing.
-use Prim.Native.Nat.{_+_, _-_}
+use Prim.Native.Nat.{_-_}
 use mathlib.Core.Path.{_≡_, sym}
 use native.Mathlib.Omega.{arith}
-use borrow.Author.Tests.{eq-eqb, ne-eqb}
+use borrow.Author.Tests.{ne-eqb}
 use Rattle.lua51_deserializer.specs.Proto.{word}
 use Rattle.ast.specs.Statement.{tailNumbers, no-tail, open-tail}
 use Rattle.lua51_lifter.specs.Lift.{opened, statementsBy}

@@ -1,6 +1,5 @@
 -- `some` meets its contract. Assumes nothing.
 use borrow.Author.Tests.{eq-eqb, ne-eqb}
-use borrow.Author.Needs.{needs}
 use Rattle.lua51_lifter.proofs.lift.some.Statement.{statement}
 use Rattle.lua51_lifter.proofs.lift.some.Tie as tie
 

@@ -1,6 +1,6 @@
 -- `statement_count` meets its contract: the count of each opcode. Assumes nothing.
 use Prim.Native.Nat.{_+_, _-_}
-use mathlib.Core.Path.{_∙_, sym}
+use mathlib.Core.Path.{sym}
 use native.Mathlib.Omega.{arith}
 use borrow.Author.Tests.{ne-eqb}
 use Rattle.lua51_deserializer.specs.Word.{opOf}
