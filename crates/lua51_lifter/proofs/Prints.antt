@@ -40,18 +40,18 @@ module _ {A : Type 0} (f : A → List ℕ) where
   pieces-append (x ∷ xs) ys = rw (pieces-append xs ys, append-assoc)
 
   -- the same of a loop over the numbers of a range
-  pub range-turn : (g : ℕ → List A) (o : Out) (i n : ℕ) → 0 < n
+  pub words-turn : (g : ℕ → List A) (o : Out) (i n : ℕ) → 0 < n
       → puts o (flatMap f (over g i n)) ≡ puts (puts o (flatMap f (g i))) (flatMap f (over g (i + 1) (n - 1)))
   unfolding over
-  range-turn g o i zero h = absurd (omega arith)
-  range-turn g o i (suc n) h =
+  words-turn g o i zero h = absurd (omega arith)
+  words-turn g o i (suc n) h =
       let left : suc n - 1 ≡ n = omega arith in
       rw (left, pieces-append (g i) (over g (i + 1) n)) (puts-append o (flatMap f (g i)) (flatMap f (over g (i + 1) n)))
 
-  pub range-done : (g : ℕ → List A) (o : Out) (i n : ℕ) → n ≤ 0 → puts o (flatMap f (over g i n)) ≡ o
+  pub words-done : (g : ℕ → List A) (o : Out) (i n : ℕ) → n ≤ 0 → puts o (flatMap f (over g i n)) ≡ o
   unfolding over flatMap
-  range-done g o i zero h = puts-none o
-  range-done g o i (suc n) h = absurd (omega arith)
+  words-done g o i zero h = puts-none o
+  words-done g o i (suc n) h = absurd (omega arith)
 
 -- ---- captures
 

@@ -18,6 +18,7 @@ ghost use Rattle.ast.specs.Buffer.{buffer, adds};
 ghost use Rattle.lua51_lifter.specs.Lift.{rk, condition, concatenated, captures, taken, opened, callWith, tailFor, statementsBy, statements, onThen};
 ghost use Rattle.lua51_lifter.specs.Lift as lift;
 ghost use Rattle.lua51_lifter.specs.Lifted.{assigned, targets, counted, below, lastOf, listed, runAt, given, lineWithin};
+use ast::REGISTER;
 use ast::push_all;
 use ast::push_registers;
 use lines::put_line;
@@ -51,8 +52,6 @@ const SET_LIST: u32 = 7;
 const CLOSE_REGISTERS: u32 = 8;
 
 // The number that each kind of expression begins with.
-const REGISTER: u32 = 1;
-
 const CONSTANT: u32 = 2;
 
 const NIL: u32 = 3;

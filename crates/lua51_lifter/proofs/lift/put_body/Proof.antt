@@ -12,7 +12,7 @@ use Rattle.lua51_deserializer.specs.Function.{Stands}
 use Rattle.lua51_lifter.specs.Lift.{statements}
 use Rattle.lua51_lifter.specs.Lift as lift
 use Rattle.lua51_lifter.specs.Lifted.{lineWithin}
-use Rattle.lua51_lifter.proofs.Prints.{range-turn, range-done}
+use Rattle.lua51_lifter.proofs.Prints.{words-turn, words-done}
 use borrow.Author.Needs.{needs}
 use Rattle.lua51_lifter.proofs.lift.put_body.Statement.{statement}
 use Rattle.lua51_lifter.proofs.lift.put_body.Tie as tie
@@ -55,7 +55,7 @@ loop-again c =
       λ p ks st e.
           let held = l .loop .inv .3 p ks st e in
           let left : a .past - (n + 1) ≡ a .past - n - 1 = omega arith in
-          let turn = range-turn (lineWithin (length (a .run .now))) (statements p) (output (l .loop .out) (l .loop .next)) n (a .past - n) (search needs) in (
+          let turn = words-turn (lineWithin (length (a .run .now))) (statements p) (output (l .loop .out) (l .loop .next)) n (a .past - n) (search needs) in (
             c .pending-behind .ensures p (st .words) (st .captured) (held .0),
             rw (w .put-word .ensures p ks st (held .0), l .loop .inv .1, left) (held .1 ∙ turn),
           ),
@@ -75,7 +75,7 @@ returns c p ks st e =
     let held = l .loop .inv .3 p ks st e in
     let none : a .past - n ≡ 0 = omega (arith, c .loop-test .left) in
     let at-end : a .from + (a .past - a .from) ≡ n = omega (arith, l .loop .inv .2, none) in (
-      sym (held .1 ∙ range-done (lineWithin (length (a .run .now))) (statements p) (output (l .loop .out) (l .loop .next)) n (a .past - n) (omega arith)),
+      sym (held .1 ∙ words-done (lineWithin (length (a .run .now))) (statements p) (output (l .loop .out) (l .loop .next)) n (a .past - n) (omega arith)),
       rw at-end (held .0),
     )
 
