@@ -10,3 +10,4 @@ pub mod Open
 pub mod Captures
 pub mod Counts
 pub mod Prints
+pub mod Fits

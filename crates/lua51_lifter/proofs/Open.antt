@@ -56,7 +56,7 @@ module _ (p : Proto) where
   unfolding taken
   taken-open i slot tail none = rw (eq-eqb (B p i) 0 none)
 
-  link-numbers : (j : ℕ) → (opcode p (suc j) ≡ numberOf VARARG → ⊥) → B p (suc j) ≡ 0
+  pub link-numbers : (j : ℕ) → (opcode p (suc j) ≡ numberOf VARARG → ⊥) → B p (suc j) ≡ 0
       → expr (opened p (suc j)) ≡ (10 ∷ 1 ∷ A p (suc j) ∷ below (A p (suc j) + 1) (A p j)) ++ expr (opened p j)
   unfolding opened taken expr
   link-numbers j not none =
