@@ -41,7 +41,7 @@ module _ (p : Proto) where
   captures-past i k (suc n) h g =
       rw (word-past (i + 1) (omega arith), word-past (k + 1) (omega arith), captures-past (i + 1) (k + 1) n (omega arith) (omega arith))
 
-  first-capture : (i n : ℕ) → exprs (captures p i (suc n)) ≡ (cond (is p (i + 1) MOVE) 1 5 ∷ B p (i + 1) ∷ []) ++ exprs (captures p (i + 1) n)
+  pub first-capture : (i n : ℕ) → exprs (captures p i (suc n)) ≡ (cond (is p (i + 1) MOVE) 1 5 ∷ B p (i + 1) ∷ []) ++ exprs (captures p (i + 1) n)
   unfolding captures exprs
   first-capture i n = rw (capture-numbers (is p (i + 1) MOVE) (B p (i + 1)))
 

@@ -1,22 +1,22 @@
 -- How long runs are: the registers of a run, and the open results of an accepted function, whose chain is short because A rises
 -- from each user to its opener; and a line that its buffer holds whole. Assumes nothing.
 use Prim.Native.Nat.{ℕ, zero, suc, _+_, _-_, _*_, _≤_, _<_}
-use mathlib.Core.Bool.{Bool, true, false, cond, _&&_, _||_}
-use mathlib.Core.Path.{_≡_, refl, ap, _∙_}
+use mathlib.Core.Bool.{Bool, true, false, cond}
+use mathlib.Core.Path.{_≡_, refl}
 use native.Mathlib.Omega.{arith}
 use lib.Dec.{eqb}
 use lib.ListN.{length, length-append}
 use lib.Seq.{take-all}
 use borrow.Author.Tests.{eqb-true, eqb-false, eq-eqb, ne-eqb}
-use Rattle.lua51_deserializer.specs.Word.{VARARG, CALL, TAILCALL, RETURN, SETLIST, numberOf, fieldOpcode, fieldA, fieldB}
-use Rattle.lua51_deserializer.specs.Proto.{Proto, size, word, is, opcode, A, B, C}
+use Rattle.lua51_deserializer.specs.Word.{VARARG, CALL, TAILCALL, numberOf, fieldOpcode, fieldA, fieldB}
+use Rattle.lua51_deserializer.specs.Proto.{Proto, size, word, opcode, A, B}
 use Rattle.lua51_deserializer.proofs.Tests.{either-way, clash}
 use Rattle.ast.specs.Statement.{Stmt, register, call, vararg, registers, []ᵉ, expr, exprs, run}
 use Rattle.lua51_lifter.specs.Check.{check, fine, opener, user, slot}
 use Rattle.lua51_lifter.specs.Lift.{opened}
 use Rattle.lua51_lifter.specs.Lifted.{lastOf, lineWithin}
 use Rattle.lua51_lifter.specs.Listing.{statementLine}
-use Rattle.lua51_lifter.proofs.Accepted.{user-after, user-opener, user-slot}
+use Rattle.lua51_lifter.proofs.Accepted.{user-opener, user-slot}
 use Rattle.lua51_lifter.proofs.Open.{opened-vararg, opened-closed, opened-first, link-numbers}
 
 -- a run that the buffer holds is printed whole

@@ -11,3 +11,4 @@ pub mod Captures
 pub mod Counts
 pub mod Prints
 pub mod Fits
+pub mod Runs

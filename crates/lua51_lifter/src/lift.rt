@@ -34,6 +34,9 @@ use lua51_deserializer::instruction::opcode_of;
 
 // ------------------------------------------------------------ numbers of runs
 
+// How many numbers a buffer has that holds every run of an accepted function.
+pub const RUN_NUMBERS: usize = 4096;
+
 // The number that each kind of statement begins with.
 const ASSIGN: u32 = 1;
 
