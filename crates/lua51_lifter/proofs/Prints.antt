@@ -34,7 +34,7 @@ module _ {A : Type 0} (f : A → List ℕ) where
   unfolding flatMap
   pieces-one x = append-nil (f x)
 
-  pieces-append : (xs ys : List A) → flatMap f (xs ++ ys) ≡ flatMap f xs ++ flatMap f ys
+  pub pieces-append : (xs ys : List A) → flatMap f (xs ++ ys) ≡ flatMap f xs ++ flatMap f ys
   unfolding flatMap
   pieces-append [] ys = refl
   pieces-append (x ∷ xs) ys = rw (pieces-append xs ys, append-assoc)

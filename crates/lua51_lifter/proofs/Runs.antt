@@ -8,17 +8,18 @@ use lib.Dec.{eqb, ltb}
 use lib.ListN.{length, length-append}
 use borrow.Author.Tests.{eqb-true, eqb-false, eq-eqb}
 use Rattle.lua51_deserializer.specs.Word.{Op, MOVE, LOADK, LOADBOOL, LOADNIL, GETUPVAL, GETGLOBAL, GETTABLE, SETGLOBAL, SETUPVAL, SETTABLE, NEWTABLE, SELF, ADD, SUB, MUL, DIV, MOD, POW, UNM, NOT, LEN, CONCAT, JMP, EQ, LT, LE, TEST, TESTSET, CALL, TAILCALL, RETURN, FORLOOP, FORPREP, TFORLOOP, SETLIST, CLOSE, CLOSURE, VARARG, UNKNOWN, opOf, numberOf}
-use Rattle.lua51_deserializer.specs.Range.{only}
-use Rattle.lua51_deserializer.specs.Proto.{Proto, size, opcode, opAt, A, B, C, closureOf, capturesOf}
+use Rattle.lua51_deserializer.specs.Range.{over, only}
+use Rattle.lua51_deserializer.specs.Proto.{Proto, is, size, opcode, opAt, A, B, C, closureOf, capturesOf}
 use Rattle.lua51_deserializer.proofs.Tests.{either-way}
 use Rattle.lua51_deserializer.proofs.Table.{allBelow, all-below}
 use Rattle.ast.specs.Statement.{Stmt, Expr, register, constant, index, binary, unary, select, vararg, call, nil, op-not, []ᵉ, one, registers, close, assign, set-register, if-statement, count, expr, exprs, run, tailNumbers, Tail, no-tail, open-tail, set-list}
 use Rattle.lua51_lifter.specs.Check.{check, fine, user}
-use Rattle.lua51_lifter.specs.Lift.{operation, comparison, rk, condition, concatenated, captures, opened, taken, callWith, tailFor, statementsBy}
+use Rattle.lua51_lifter.specs.Lift.{pending, statements, onThen, operation, comparison, rk, condition, concatenated, captures, opened, taken, callWith, tailFor, statementsBy}
 use Rattle.lua51_lifter.specs.Lifted.{lineWithin, runAt, given, below, counted, listed}
 use Rattle.lua51_lifter.proofs.Accepted.{user-opener, opcode-known}
 use Rattle.lua51_lifter.proofs.Arms.{each-length, each-at, set-numbers, assign-numbers}
 use Rattle.lua51_lifter.proofs.Captures.{closure-numbers, first-capture}
+use Rattle.lua51_lifter.proofs.Prints.{pieces-append}
 use Rattle.lua51_lifter.proofs.Open.{taken-closed, taken-open, tail-numbers, list-numbers}
 use Rattle.lua51_lifter.proofs.Fits.{line-fits, registers-length, open-length}
 use Rattle.lua51_lifter.specs.Listing.{statementLine}
@@ -233,3 +234,31 @@ module _ (p : Proto) (ok : check p ≡ fine) (i : ℕ) (lt : i < size p) (stack 
   -- in a buffer of 4,096 numbers or more each of its S lines is whole
   pub lines-whole : (n : ℕ) → room ≤ n → flatMap (lineWithin n) (given p i) ≡ flatMap statementLine (given p i)
   lines-whole n h = fit-lines n h (given p i) runs-fit
+
+  -- a capture's none
+  statements-whole : (n : ℕ) → room ≤ n → flatMap (lineWithin n) (statements p i) ≡ flatMap statementLine (statements p i)
+  unfolding statements
+  statements-whole n h = fit-lines n h (cond (ltb 0 (pending p i)) [] (given p i))
+      (fit-cond (ltb 0 (pending p i)) [] (given p i) (λ e. fit-none) (λ e. runs-fit))
+
+-- the S lines of a block's words
+pub body-whole : (p : Proto) → check p ≡ fine → p .stack ≤ 255 → ((i : ℕ) → capturesOf p i ≤ 255)
+    → (n : ℕ) → room ≤ n → (from count : ℕ) → from + count ≤ size p
+    → flatMap (lineWithin n) (over (statements p) from count) ≡ flatMap statementLine (over (statements p) from count)
+unfolding over flatMap
+body-whole p ok stack caps n h from zero within = refl
+body-whole p ok stack caps n h from (suc count) within =
+    rw (
+      pieces-append (lineWithin n) (statements p from) (over (statements p) (from + 1) count),
+      pieces-append statementLine (statements p from) (over (statements p) (from + 1) count),
+      statements-whole p ok from (omega arith) stack (caps from) n h,
+      body-whole p ok stack caps n h (from + 1) count (omega arith),
+    )
+
+-- the assignment on a Then edge
+pub then-whole : (p : Proto) (i n : ℕ) → room ≤ n → flatMap (lineWithin n) (onThen p i) ≡ flatMap statementLine (onThen p i)
+unfolding onThen run count exprs expr
+then-whole p i n h = fit-lines n h _
+    (fit-cond (is p i TESTSET) _ _ (λ e. fit-one _ (omega arith))
+    (λ e. fit-cond (is p i FORLOOP) _ _ (λ e. fit-one _ (omega arith))
+    (λ e. fit-cond (is p i TFORLOOP) _ _ (λ e. fit-one _ (omega arith)) (λ e. fit-none))))
