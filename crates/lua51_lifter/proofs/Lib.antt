@@ -3,3 +3,4 @@ pub mod Accepted
 pub mod Blocks
 pub mod Fronts
 pub mod Examples
+pub mod ConstantLines
