@@ -12,3 +12,4 @@ pub mod Counts
 pub mod Prints
 pub mod Fits
 pub mod Runs
+pub mod ConstantLines
