@@ -3,13 +3,3 @@ pub mod Accepted
 pub mod Blocks
 pub mod Fronts
 pub mod Examples
-pub mod Operands
-pub mod Arms
-pub mod Operations
-pub mod Open
-pub mod Captures
-pub mod Counts
-pub mod Prints
-pub mod Fits
-pub mod Runs
-pub mod ConstantLines
