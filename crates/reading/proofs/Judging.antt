@@ -14,7 +14,7 @@ use Rattle.lua51_deserializer.specs.declared.chunk.Functions.{Functions}
 use Rattle.lua51_deserializer.specs.declared.chunk.Walked.{Walked}
 use Rattle.lua51_deserializer.specs.declared.fields.Cursor.the-variants.{Here}
 use Rattle.lua51_deserializer.specs.declared.function.Loaded.{Loaded}
-use Rattle.lua51_deserializer.proofs.Cursor.{refusals, refusal}
+use Rattle.lua51_deserializer.proofs.Cursor.{refusals, refusal as refusal-of}
 use Rattle.lua51_deserializer.proofs.Places.{places-length}
 use Rattle.lua51_deserializer.proofs.WholeChunk.{whole-chunk}
 use Rattle.lua51_deserializer.proofs.WholeFunction.{holds-each}
@@ -28,7 +28,7 @@ use Rattle.lua51_checker.specs.declared.check.Verdict as found
 use Rattle.lua51_checker.specs.declared.check.Verdict.the-variants.{Fine}
 use Rattle.lua51_checker.proofs.Judging.{refuses}
 use Rattle.lua51_checker.proofs.check.Verdict.{the-type as verdict-type}
-use Rattle.reading.specs.Reading.{Answer, given, judged, judgeFrom, judgeRead, judge}
+use Rattle.reading.specs.Reading.{Answer, given, refusal, judged, judgeFrom, judgeRead, judge}
 use Rattle.reading.specs.Judging.{answerOf, Whole, Ready}
 use Rattle.reading.specs.declared.Answer.the-variants.{Chunk, Function}
 
@@ -64,7 +64,7 @@ module _ (s : List ℕ) (w : Walked) (e : walkOf w ≡ walk s) where
   pub judge-refused : OneOf refusals (tagOf the-type (w .cursor)) → answerOf (Chunk (w .cursor)) ≡ judge s
   unfolding judge judgeRead
   judge-refused h =
-      let (n, p, q) = refusal (w .cursor) h in
+      let (n, p, q) = refusal-of (w .cursor) h in
       rw (sym (ap (λ (v : Walk). v .read) e) ∙ q) (rw q)
 
   pub whole-of : (at : ℕ) → w .cursor ≡ Here at → Whole s (w .functions)
@@ -87,7 +87,7 @@ module _ (s : List ℕ) (ps : List Place) (n f : ℕ) (v : found.Verdict) (below
   judge-turn = let m : n - f ≡ suc (n - (f + 1)) = omega arith in rw (m, e)
 
   pub function-refused : OneOf (1 ∷ 2 ∷ 3 ∷ 4 ∷ 5 ∷ 6 ∷ 7 ∷ 8 ∷ []) (tagOf verdict-type v) → answerOf (Function f v) ≡ judgeFrom s ps f (n - f)
-  function-refused h = refused-alike f (verdictOf v) (given 0) rest (refuses v (wrong 0 0) h) ∙ sym judge-turn
+  function-refused h = refused-alike f (verdictOf v) (refusal 0 f 0) rest (refuses v (wrong 0 0) h) ∙ sym judge-turn
 
   pub function-passed : v ≡ Fine → rest ≡ judgeFrom s ps f (n - f)
   function-passed h = sym (judge-turn ∙ rw h)

@@ -1,4 +1,4 @@
-// Judging a chunk. Of opening it and delivering its listings so far the definitions only (specs/).
+// Judging a chunk and opening it. Of delivering its listings so far the definitions only (specs/).
 use cfg::marks::mark_leaders;
 use lua51_checker::check::Verdict;
 use lua51_checker::check::check;
@@ -8,15 +8,16 @@ use lua51_deserializer::fields::Cursor;
 use lua51_deserializer::function::Head;
 use lua51_deserializer::function::function_at;
 ghost use mathlib.Core.Path.{_≡_};
-ghost use Prim.Native.Nat.{_<_};
+ghost use mathlib.Core.List.{List};
+ghost use Prim.Native.Nat.{ℕ, _<_};
 ghost use lib.ListN.{length};
 ghost use Rattle.lua51_deserializer.specs.Proto.{Proto, size};
 ghost use Rattle.lua51_deserializer.specs.Function.{Stands};
 ghost use Rattle.lua51_deserializer.specs.Chunk.{walk, protoAt};
 ghost use Rattle.lua51_lifter.specs.Check.{check};
 ghost use Rattle.lua51_checker.specs.Judgement.{verdictOf};
-ghost use Rattle.reading.specs.Reading.{judge};
-ghost use Rattle.reading.specs.Judging.{answerOf, Whole, Ready};
+ghost use Rattle.reading.specs.Reading.{judge, closed, opening};
+ghost use Rattle.reading.specs.Judging.{answerOf, Whole, Ready, readingOf, openingOf};
 
 // What judging a chunk answers.
 pub enum Answer {
@@ -132,4 +133,48 @@ pub fn judge(s: &[u8]) -> Answer
         return Answer::Chunk(cursor);
     };
     judge_functions(s, walked.functions)
+}
+
+// A reading of a chunk: whether it is open, and the function whose listing comes next. It goes into each call and comes back.
+pub struct Reading {
+    pub opened: bool,
+    pub next: u32,
+}
+
+impl Reading {
+    // A closed reading at function 0, as every reading begins.
+    pub fn new() -> Self
+        ensures { λ r. ⌜ readingOf r ≡ closed ⌝ }
+    {
+        Self {
+            opened: false,
+            next: 0,
+        }
+    }
+}
+
+// What opening a chunk gives: its judgement, and the reading.
+pub struct Opened {
+    pub answer: Answer,
+    pub reading: Reading,
+}
+
+// Judges a whole chunk, and opens the reading at function 0. Where the chunk is refused the reading is closed, at function 0.
+pub fn open(s: &[u8]) -> Opened
+    ensures { λ r. ⌜ ((out : List ℕ) → openingOf r out ≡ opening (now (s .entry)) out) ⌝ }
+{
+    let answer = judge(s);
+    let Answer::Given(_) = answer else {
+        return Opened {
+            answer,
+            reading: Reading::new(),
+        };
+    };
+    Opened {
+        answer,
+        reading: Reading {
+            opened: true,
+            next: 0,
+        },
+    }
 }
