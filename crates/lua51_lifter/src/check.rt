@@ -1,6 +1,6 @@
 // Checking one function: refusals 7 to 14, in their order.
 ghost use mathlib.Core.Path.{_≡_};
-ghost use mathlib.Core.Bool.{false, cond};
+ghost use mathlib.Core.Bool.{cond};
 ghost use mathlib.Core.List.{List};
 ghost use Prim.Native.Nat.{ℕ, _+_, _-_, _/_, _%_, _<_};
 ghost use lib.Dec.{eqb};
@@ -97,12 +97,14 @@ pub fn word_verdict(head: Head, words: &[u32], kinds: &[u8], nested: &[u32], i: 
     ensures { λ r. ⌜ ((p : Proto) (us : List ℕ) → Stands p head (now (words .entry)) (now (kinds .entry)) (now (nested .entry)) us → verdictOf r ≡ wordVerdict p i) ⌝ }
 {
     let instruction = decode(word_at(words, i));
-    if operand_fault(instruction, head, kinds, nested) {
-        return Verdict::Operand(i);
-    }
     let row = instruction.row;
     let flow = row.flow;
-    if !lands_inside(flow, words, i, instruction.c) {
+    let outside = operand_fault(instruction, head, kinds, nested);
+    let lands = lands_inside(flow, words, i, instruction.c);
+    if outside {
+        return Verdict::Operand(i);
+    }
+    if !lands {
         return Verdict::Target(i);
     }
     if asks(flow) & (opcode_of(word_behind(words, i)) != JMP) {

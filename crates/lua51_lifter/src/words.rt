@@ -1,8 +1,6 @@
 // The words of a function by number, and the opcodes that are judged by name.
 ghost use mathlib.Core.Path.{_≡_};
-ghost use mathlib.Core.Bool.{not, _&&_, _||_};
-ghost use Prim.Native.Nat.{ℕ, _+_};
-ghost use lib.Dec.{eqb};
+ghost use Prim.Native.Nat.{_+_};
 ghost use lib.ListN.{getD};
 
 pub const MOVE: u8 = 0;

@@ -15,22 +15,27 @@ decode-requires c κs = search needs
 operand-fault-requires : tie.Need-operand-fault-requires
 operand-fault-requires c κs = search needs
 
-returns : tie.Need-returns
-returns c = let f = c .before in
-    let w = f .before .before in
-    let a = w .before .before .before .before .args in
-    λ p us s. operand-outside p (a .i) (f .operand-fault .ensures p (a .i) (a .words .now) us s (rw (w .word-at .ensures) at (f .before .decode .ensures))) (c .if1 .taken)
-
 lands-inside-requires : tie.Need-lands-inside-requires
 lands-inside-requires c κs = search needs
 
-returns-2 : tie.Need-returns-2
-returns-2 c = let l = c .before in
-    let f = l .before .before .before in
-    let w = f .before .before in
+returns : tie.Need-returns
+returns c =
+    let f = c .before .before in
+    let w = f .before .before .before in
     let a = w .before .before .before .before .args in
-    λ p us s. let d = rw (w .word-at .ensures) at (f .before .decode .ensures) in
-    target-outside p (a .i) (f .operand-fault .ensures p (a .i) (a .words .now) us s d) (l .before .before .if1 .left)
+    λ p us s.
+    let d = rw (w .word-at .ensures) at (f .before .before .decode .ensures) in
+    operand-outside p (a .i) (f .operand-fault .ensures p (a .i) (a .words .now) us s d) (c .if1 .taken)
+
+returns-2 : tie.Need-returns-2
+returns-2 c =
+    let l = c .before .before in
+    let f = l .before in
+    let w = f .before .before .before in
+    let a = w .before .before .before .before .args in
+    λ p us s.
+    let d = rw (w .word-at .ensures) at (f .before .before .decode .ensures) in
+    target-outside p (a .i) (f .operand-fault .ensures p (a .i) (a .words .now) us s d) (c .before .if1 .left)
     (l .lands-inside .ensures p (s .words) (cc) ∙ ap (landsInside p (a .i)) (cc)) (c .if2 .taken)
 
 asks-requires : tie.Need-asks-requires
@@ -43,23 +48,27 @@ opcode-of-requires : tie.Need-opcode-of-requires
 opcode-of-requires c κs = search needs
 
 returns-3 : tie.Need-returns-3
-returns-3 c = let e = c .before .before .before .before in
-    let l = e .before in
-    let f = l .before .before .before in
-    let w = f .before .before in
+returns-3 c =
+    let e = c .before .before .before .before in
+    let l = e .before .before in
+    let f = l .before in
+    let w = f .before .before .before in
     let a = w .before .before .before .before .args in
-    λ p us s. let d = rw (w .word-at .ensures) at (f .before .decode .ensures) in
-    jump-missing p (a .i) (f .operand-fault .ensures p (a .i) (a .words .now) us s d) (l .before .before .if1 .left)
+    λ p us s.
+    let d = rw (w .word-at .ensures) at (f .before .before .decode .ensures) in
+    jump-missing p (a .i) (f .operand-fault .ensures p (a .i) (a .words .now) us s d) (e .before .if1 .left)
     (l .lands-inside .ensures p (s .words) (cc) ∙ ap (landsInside p (a .i)) (cc)) (e .if2 .left) (c .if3 .taken) (cc)
 
 returns-4 : tie.Need-returns-4
-returns-4 c = let e = c .before .before .before .before in
-    let l = e .before in
-    let f = l .before .before .before in
-    let w = f .before .before in
+returns-4 c =
+    let e = c .before .before .before .before in
+    let l = e .before .before in
+    let f = l .before in
+    let w = f .before .before .before in
     let a = w .before .before .before .before .args in
-    λ p us s. let d = rw (w .word-at .ensures) at (f .before .decode .ensures) in
-    word-right p (a .i) (f .operand-fault .ensures p (a .i) (a .words .now) us s d) (l .before .before .if1 .left)
+    λ p us s.
+    let d = rw (w .word-at .ensures) at (f .before .before .decode .ensures) in
+    word-right p (a .i) (f .operand-fault .ensures p (a .i) (a .words .now) us s d) (e .before .if1 .left)
     (l .lands-inside .ensures p (s .words) (cc) ∙ ap (landsInside p (a .i)) (cc)) (e .if2 .left) (c .if3 .left) (cc)
 
 pub word-verdict-spec : {M : Type 1} → statement M
@@ -69,8 +78,8 @@ word-verdict-spec =
     word-at-requires
     decode-requires
     operand-fault-requires
-    returns
     lands-inside-requires
+    returns
     returns-2
     asks-requires
     word-behind-requires
