@@ -6,7 +6,7 @@ ghost use Prim.Native.Nat.{ℕ, _+_, _-_, _/_, _%_, _<_};
 ghost use lib.Dec.{eqb};
 ghost use lib.ListN.{length};
 ghost use Rattle.lua51_deserializer.specs.Proto.{Proto, size};
-ghost use Rattle.lua51_deserializer.specs.Function.{Stands};
+ghost use Rattle.lua51_function.specs.Function.{Stands};
 ghost use Rattle.cfg.specs.Graph.{leader};
 ghost use Rattle.lua51_lifter.specs.Check.{headFault, lastFault, wordVerdict, useVerdict, firstRefusal, reached, fine, check};
 ghost use Rattle.lua51_checker.specs.Judgement.{verdictOf, Marked, Surveyed, checkWords};
@@ -25,9 +25,9 @@ use crate::words::RETURN;
 use crate::words::TESTSET;
 use crate::words::word_at;
 use crate::words::word_behind;
-use lua51_deserializer::function::Head;
 use lua51_deserializer::instruction::decode;
 use lua51_deserializer::instruction::opcode_of;
+use lua51_function::function::Head;
 
 // What a check finds: nothing, or the first fault, with its word.
 pub enum Verdict {

@@ -8,15 +8,15 @@ ghost use lib.ListN.{length, getD};
 ghost use Rattle.lua51_deserializer.specs.Chunk.{kind-string};
 ghost use Rattle.lua51_deserializer.specs.Instruction.{kindMeant, Decodes};
 ghost use Rattle.lua51_deserializer.specs.Proto.{Proto};
-ghost use Rattle.lua51_deserializer.specs.Function.{Stands};
+ghost use Rattle.lua51_function.specs.Function.{Stands};
 ghost use Rattle.lua51_lifter.specs.Check.{operand, operandFault};
 use lua51_deserializer::argument::RegisterOrConstant;
 use lua51_deserializer::argument::register_or_constant;
 use lua51_deserializer::bytes::byte_at;
-use lua51_deserializer::function::Head;
 use lua51_deserializer::instruction::Instruction;
 use lua51_deserializer::instruction::Kind;
 use lua51_deserializer::instruction::OPCODES;
+use lua51_function::function::Head;
 
 // ------------------------------------------------------------ flags
 

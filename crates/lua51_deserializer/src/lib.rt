@@ -5,6 +5,5 @@ pub mod argument; // what an operand stands for
 pub mod bytes; // numbers in a slice of bytes
 pub mod chunk; // the walk over a chunk's functions
 pub mod fields; // the fields of a chunk
-pub mod function; // one function in plain buffers
 pub mod instruction; // words, their operands, and the table of opcodes
 pub mod value; // constants

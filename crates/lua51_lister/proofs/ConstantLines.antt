@@ -19,9 +19,9 @@ use Rattle.lua51_deserializer.specs.Chunk.{Value, Place, Text, kindOf, kind-nil
 use Rattle.lua51_deserializer.specs.Chunk.{byteAt, intAt, valueAt, constantsAt, protoAt}
 use Rattle.lua51_deserializer.specs.Chunk as chunk
 use Rattle.lua51_deserializer.specs.Constant.{within, patternAt, numberOf, valueOf, constantAt, Reads}
-use Rattle.lua51_deserializer.specs.Function.{short, Stands, Holds}
-use Rattle.lua51_deserializer.specs.declared.function.Head.{Head}
-use Rattle.lua51_deserializer.specs.declared.function.Loaded.{Loaded}
+use Rattle.lua51_function.specs.Function.{short, Stands, Holds}
+use Rattle.lua51_function.specs.declared.function.Head.{Head}
+use Rattle.lua51_function.specs.declared.function.Loaded.{Loaded}
 use Rattle.lua51_deserializer.specs.declared.value.Constant.{Constant}
 use Rattle.lua51_deserializer.specs.declared.value.Constant.the-variants.{Nil, Boolean, String}
 use Rattle.lua51_deserializer.proofs.Ends.{drop-within}

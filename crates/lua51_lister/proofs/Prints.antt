@@ -16,8 +16,8 @@ use lib.Seq.{drop-cons}
 use Rattle.lines.specs.Out.{Out, puts}
 use Rattle.lines.proofs.Puts.{puts-append, puts-none}
 use Rattle.lua51_deserializer.specs.Proto.{Proto, is, capturesOf}
-use Rattle.lua51_deserializer.specs.Function.{Stands}
-use Rattle.lua51_deserializer.specs.declared.function.Head.{Head}
+use Rattle.lua51_function.specs.Function.{Stands}
+use Rattle.lua51_function.specs.declared.function.Head.{Head}
 
 -- one turn of a loop that prints f of each element of xs, and its end
 module _ {A : Type 0} (f : A → List ℕ) where

@@ -8,8 +8,8 @@ use Rattle.lines.specs.Out.{Out, puts}
 use Rattle.lua51_deserializer.specs.Chunk.{Value, kindOf, here, constant, valueAt, most}
 use Rattle.lua51_deserializer.specs.Chunk as chunk
 use Rattle.lua51_deserializer.specs.Constant.{valueOf, constantAt}
-use Rattle.lua51_deserializer.specs.Function.{short}
-use Rattle.lua51_deserializer.specs.declared.function.Head.{Head}
+use Rattle.lua51_function.specs.Function.{short}
+use Rattle.lua51_function.specs.declared.function.Head.{Head}
 use Rattle.lua51_deserializer.specs.declared.value.Constant.{Constant}
 use Rattle.lua51_deserializer.specs.declared.value.Constant.the-variants.{Nil, Boolean, Number, NotANumber, String}
 use Rattle.lua51_lifter.specs.Listing.{value, constantLines}

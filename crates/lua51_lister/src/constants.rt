@@ -18,12 +18,12 @@ use lua51_deserializer::fields::KIND_BOOLEAN;
 use lua51_deserializer::fields::KIND_NIL;
 use lua51_deserializer::fields::KIND_NUMBER;
 use lua51_deserializer::fields::KIND_STRING;
-use lua51_deserializer::function::Head;
 use lua51_deserializer::value::Constant;
 use lua51_deserializer::value::constant_at;
 use lua51_deserializer::value::pattern_of;
 use lua51_deserializer::value::pieces_of;
 use lua51_deserializer::value::place_after;
+use lua51_function::function::Head;
 
 const LETTER_F: u8 = b'F';
 

@@ -3,7 +3,7 @@ ghost use Prim.Native.Nat.{ℕ, _+_, _-_, _≤_, _<_};
 ghost use mathlib.Core.Path.{_≡_};
 ghost use mathlib.Core.List.{List, [], _∷_, flatMap};
 ghost use Rattle.lines.specs.Out.{output, puts};
-ghost use Rattle.lua51_deserializer.specs.Function.{Stands};
+ghost use Rattle.lua51_function.specs.Function.{Stands};
 ghost use lib.ListN.{length, getD};
 ghost use mathlib.Core.Bool.{cond};
 ghost use lib.Dec.{eqb, ltb};
@@ -24,13 +24,13 @@ use ast::push_registers;
 use lines::put_line;
 use lua51_deserializer::argument::RegisterOrConstant;
 use lua51_deserializer::argument::register_or_constant;
-use lua51_deserializer::function::Head;
 use lua51_deserializer::instruction::Instruction;
 use lua51_deserializer::instruction::a_of;
 use lua51_deserializer::instruction::b_of;
 use lua51_deserializer::instruction::bx_of;
 use lua51_deserializer::instruction::decode;
 use lua51_deserializer::instruction::opcode_of;
+use lua51_function::function::Head;
 
 // ------------------------------------------------------------ numbers of runs
 

@@ -7,17 +7,17 @@ use lib.ListN.{length}
 use types.Run.{OneOf}
 use denote.Enum.Declared.{tagOf}
 use Rattle.lua51_deserializer.specs.Chunk.{here, Place, Walk, walk, protoAt, most, most-words, most-functions}
-use Rattle.lua51_deserializer.specs.Function.{heldOf, Loads, Holds}
+use Rattle.lua51_function.specs.Function.{heldOf, Loads, Holds}
 use Rattle.lua51_deserializer.specs.Proto.{Proto, size}
 use Rattle.lua51_deserializer.specs.Walked.{walkOf}
 use Rattle.lua51_deserializer.specs.declared.chunk.Functions.{Functions}
 use Rattle.lua51_deserializer.specs.declared.chunk.Walked.{Walked}
 use Rattle.lua51_deserializer.specs.declared.fields.Cursor.the-variants.{Here}
-use Rattle.lua51_deserializer.specs.declared.function.Loaded.{Loaded}
+use Rattle.lua51_function.specs.declared.function.Loaded.{Loaded}
 use Rattle.lua51_deserializer.proofs.Cursor.{refusals, refusal as refusal-of}
 use Rattle.lua51_deserializer.proofs.Places.{places-length}
-use Rattle.lua51_deserializer.proofs.WholeChunk.{whole-chunk}
-use Rattle.lua51_deserializer.proofs.WholeFunction.{holds-each}
+use Rattle.lua51_function.proofs.WholeChunk.{whole-chunk}
+use Rattle.lua51_function.proofs.WholeFunction.{holds-each}
 use Rattle.lua51_deserializer.proofs.fields.Cursor.{the-type}
 use Rattle.cfg.specs.Arrays.{table, mark}
 use Rattle.cfg.specs.Graph.{leader}

@@ -5,7 +5,7 @@ use mathlib.Core.Path.{_≡_}
 use lib.ListN.{length}
 use Rattle.lua51_deserializer.specs.Chunk.{Read, here, refused, walked, walk, most-words}
 use Rattle.lua51_deserializer.specs.Cursor.{readOf}
-use Rattle.lua51_deserializer.specs.Function.{Roomy}
+use Rattle.lua51_function.specs.Function.{Roomy}
 use Rattle.lua51_deserializer.specs.Walked.{placesOf}
 use Rattle.lua51_deserializer.specs.declared.chunk.Functions.{Functions}
 use Rattle.lua51_checker.specs.Judgement.{verdictOf}

@@ -10,7 +10,7 @@ use Rattle.reading.proofs.check_function.Statement.{statement}
 use Rattle.reading.proofs.check_function.Tie as tie
 use Rattle.reading.proofs.check_function.Reads as reads
 use Rattle.reading.proofs.check_function.Lts as lts
-use Rattle.lua51_deserializer.proofs.function.function_at.Reads as function-at-reads
+use Rattle.lua51_function.proofs.function.function_at.Reads as function-at-reads
 use Rattle.reading.proofs.check_loaded.Reads as check-loaded-reads
 
 -- no function has more words than the buffers hold

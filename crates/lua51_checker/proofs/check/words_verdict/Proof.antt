@@ -5,7 +5,7 @@ use mathlib.Core.List.{List}
 use mathlib.Core.Path.{_≡_, sym, _∙_}
 use lib.ListN.{length}
 use borrow.Author.Needs.{needs}
-use Rattle.lua51_deserializer.specs.Function.{Stands}
+use Rattle.lua51_function.specs.Function.{Stands}
 use Rattle.lua51_deserializer.specs.Proto.{Proto, size}
 use Rattle.lua51_lifter.specs.Check.{firstRefusal, wordVerdict}
 use Rattle.lua51_checker.proofs.Judging.{first-refused, first-passed, first-end}

@@ -8,7 +8,7 @@ use lib.ListN.{length}
 use Rattle.lines.specs.Out.{output, puts}
 use Rattle.lua51_deserializer.specs.Range.{over}
 use Rattle.lua51_deserializer.specs.Proto.{Proto}
-use Rattle.lua51_deserializer.specs.Function.{Stands}
+use Rattle.lua51_function.specs.Function.{Stands}
 use Rattle.lua51_lifter.specs.Lift.{statements}
 use Rattle.lua51_lifter.specs.Lift as lift
 use Rattle.lua51_lister.specs.Lifted.{lineWithin}

@@ -9,7 +9,7 @@ use mathlib.Core.List.{List, [], flatMap}
 use lib.ListN.{length, drop}
 use Rattle.lines.specs.Out.{output, puts}
 use Rattle.lua51_deserializer.specs.Proto.{Proto}
-use Rattle.lua51_deserializer.specs.Function.{Stands}
+use Rattle.lua51_function.specs.Function.{Stands}
 use Rattle.ast.specs.Statement.{close}
 use Rattle.ast.proofs.Adds.{run-within, run-held}
 use Rattle.lua51_lister.specs.Lifted.{given, runAt, lineWithin}

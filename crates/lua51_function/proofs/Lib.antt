@@ -1,0 +1,4 @@
+pub mod Buffers
+pub mod FieldEnds
+pub mod WholeChunk
+pub mod WholeFunction

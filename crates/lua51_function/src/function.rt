@@ -1,0 +1,266 @@
+// One function of a chunk, in plain buffers: its head by value, and its lists in arrays that the caller lends.
+use lua51_deserializer::bytes::byte_at;
+use lua51_deserializer::bytes::byte_behind;
+use lua51_deserializer::bytes::int_at;
+use lua51_deserializer::chunk::Functions;
+use lua51_deserializer::chunk::MOST_FUNCTIONS;
+use lua51_deserializer::fields::Cursor;
+use lua51_deserializer::fields::INT_SIZE;
+use lua51_deserializer::fields::KIND_BOOLEAN;
+use lua51_deserializer::fields::KIND_NIL;
+use lua51_deserializer::fields::KIND_NUMBER;
+use lua51_deserializer::fields::KIND_STRING;
+use lua51_deserializer::fields::constant;
+use lua51_deserializer::fields::lines;
+use lua51_deserializer::fields::locals;
+use lua51_deserializer::fields::string;
+use lua51_deserializer::value::place_after;
+ghost use mathlib.Core.Path.{_≡_};
+ghost use mathlib.Core.List.{map};
+ghost use Prim.Native.Nat.{_+_, _≤_, _<_, min};
+ghost use lib.ListN.{getD, length};
+ghost use Rattle.lua51_deserializer.specs.Chunk.{offset, intAt, ints, nowhere, bytesOf, wordsOf, constantsOf, nestedIn, protoAt};
+ghost use Rattle.lua51_deserializer.specs.Constant.{within};
+ghost use Rattle.lua51_deserializer.specs.Cursor.{readOf};
+ghost use Rattle.lua51_function.specs.Function.{heldCount, heldOf, numberIn, upvaluesIn, NextNested, constantPlacesOf, kindAt, short, Filled, headOf, Loads};
+
+// What a function's refusals, listing and graph need beside its lists.
+pub struct Head {
+    // its number in the chunk
+    pub number: u32,
+    pub parameters: u8,
+    pub upvalues: u8,
+    pub flags: u8,
+    pub stack: u8,
+    // how many word lines and upvalue names it has
+    pub lines: u32,
+    pub names: u32,
+}
+
+// A function's head, and how many of its words, constants and nested functions the buffers hold.
+pub struct Loaded {
+    pub head: Head,
+    pub words: usize,
+    pub constants: usize,
+    pub nested: usize,
+}
+
+// Two lines stand between a function's source and its four bytes.
+const LINES_SIZE: usize = 8;
+// Upvalues, parameters, flags and stack.
+const BYTES_SIZE: usize = 4;
+
+const PARAMETERS: usize = 1;
+
+const FLAGS: usize = 2;
+
+const STACK: usize = 3;
+
+// How many places 32 bits can hold.
+const SHORT_PLACES: usize = 1 << 32;
+
+// The smaller of two numbers.
+fn least(a: usize, b: usize) -> usize
+    ensures { λ r. ⌜ r ≡ min a b ⌝ }
+{
+    if a < b {
+        return a;
+    }
+    b
+}
+
+// The offset that a cursor stands at; 0 where it is a refusal.
+fn offset_of(c: Cursor) -> usize
+    ensures { λ r. ⌜ r ≡ offset (readOf c) ⌝ }
+{
+    let Cursor::Here(at) = c else {
+        return 0;
+    };
+    at
+}
+
+// How many functions the table holds.
+fn held(functions: Functions) -> usize
+    ensures { λ r. ⌜ r ≡ heldCount functions ⌝ }
+{
+    least(functions.count, MOST_FUNCTIONS)
+}
+
+// Where function f starts; 0 where there is none.
+fn start_of(functions: Functions, f: usize) -> usize
+    ensures { λ r. ⌜ r ≡ getD (heldOf functions) f nowhere .start ⌝ }
+{
+    if held(functions) <= f {
+        return 0;
+    }
+    functions.starts[f] as usize
+}
+
+// Where what follows the nested functions of function f starts; 0 where there is none.
+fn tail_of(functions: Functions, f: usize) -> usize
+    ensures { λ r. ⌜ r ≡ getD (heldOf functions) f nowhere .tail ⌝ }
+{
+    if held(functions) <= f {
+        return 0;
+    }
+    functions.tails[f] as usize
+}
+
+// Where the four bytes of the function that starts at `start` stand.
+fn bytes_of(s: &[u8], start: usize) -> usize
+    ensures { λ r. ⌜ r ≡ within (now (s .entry)) (bytesOf (now (s .entry)) start) ⌝ }
+{
+    place_after(s, offset_of(string(s, Cursor::Here(start))), LINES_SIZE)
+}
+
+// Where the count of its words stands.
+fn words_of(s: &[u8], start: usize) -> usize
+    ensures { λ r. ⌜ r ≡ within (now (s .entry)) (wordsOf (now (s .entry)) start) ⌝ }
+{
+    place_after(s, bytes_of(s, start), BYTES_SIZE)
+}
+
+// Where the count of its constants stands.
+fn constants_of(s: &[u8], start: usize) -> usize
+    ensures { λ r. ⌜ r ≡ within (now (s .entry)) (constantsOf (now (s .entry)) start) ⌝ }
+{
+    let words = words_of(s, start);
+    let size = INT_SIZE * (int_at(s, words) as usize);
+    place_after(s, words, INT_SIZE + size)
+}
+
+// Function f without its lists.
+fn head_at(s: &[u8], functions: Functions, f: u32) -> Head
+    ensures { λ r. ⌜ r ≡ headOf (protoAt (now (s .entry)) (heldOf functions) f) ⌝ }
+{
+    let number = f as usize;
+    let bytes = bytes_of(s, start_of(functions, number));
+    let tail = tail_of(functions, number);
+    Head {
+        number: f,
+        upvalues: byte_at(s, bytes),
+        parameters: byte_behind(s, bytes, PARAMETERS),
+        flags: byte_behind(s, bytes, FLAGS),
+        stack: byte_behind(s, bytes, STACK),
+        lines: int_at(s, tail),
+        names: int_at(s, offset_of(locals(s, lines(s, Cursor::Here(tail))))),
+    }
+}
+
+// The words of the function that starts at `start`; gives how many there was room for.
+fn fill_words(s: &[u8], start: usize, words: &mut [u32]) -> usize
+    ensures { λ r. ⌜ Filled r (length (now (words .entry))) (ints (now (s .entry)) (wordsOf (now (s .entry)) start + 4) (intAt (now (s .entry)) (wordsOf (now (s .entry)) start))) (now (words .entry)) (now (words .exit)) ⌝ }
+{
+    let at = words_of(s, start);
+    let first = place_after(s, at, INT_SIZE);
+    let n = least(int_at(s, at) as usize, words.len());
+    let mut i: usize = 0;
+    while i < n {
+        words[i] = int_at(s, place_after(s, first, INT_SIZE * i));
+        i += 1;
+    }
+    n
+}
+
+// The kind of the constant at an offset.
+fn kind_at(s: &[u8], at: usize) -> u8
+    ensures { λ r. ⌜ r ≡ kindAt (now (s .entry)) at ⌝ }
+{
+    let kind = byte_at(s, at);
+    if kind == KIND_NIL {
+        return KIND_NIL;
+    }
+    if kind == KIND_BOOLEAN {
+        return KIND_BOOLEAN;
+    }
+    if kind == KIND_NUMBER {
+        return KIND_NUMBER;
+    }
+    KIND_STRING
+}
+
+// The kinds and the places of the constants of the function that starts at `start`; gives how many there was room for.
+fn fill_constants(s: &[u8], start: usize, kinds: &mut [u8], places: &mut [u32]) -> usize
+    ensures kinds { λ r. ⌜ Filled r (min (length (now (kinds .entry))) (length (now (places .entry)))) (map (kindAt (now (s .entry))) (constantPlacesOf (now (s .entry)) start)) (now (kinds .entry)) (now (kinds .exit)) ⌝ }
+    ensures places { λ r. ⌜ Filled r (min (length (now (kinds .entry))) (length (now (places .entry)))) (map short (constantPlacesOf (now (s .entry)) start)) (now (places .entry)) (now (places .exit)) ⌝ }
+{
+    let count_at = constants_of(s, start);
+    let room = least(kinds.len(), places.len());
+    let n = least(int_at(s, count_at) as usize, room);
+    let mut at = place_after(s, count_at, INT_SIZE);
+    let mut i: usize = 0;
+    while i < n {
+        kinds[i] = kind_at(s, at);
+        places[i] = (at % SHORT_PLACES) as u32;
+        at = offset_of(constant(s, Cursor::Here(at)));
+        i += 1;
+    }
+    n
+}
+
+// The number of the first function from k on that is nested in function `me`, or how many functions there are.
+fn next_nested(functions: Functions, me: u32, k: usize) -> usize
+    ensures { λ r. ⌜ NextNested (heldOf functions) me k r ⌝ }
+{
+    let count = held(functions);
+    let mut r = k;
+    while r < count {
+        if functions.parents[r] as u32 == me {
+            return r;
+        }
+        r += 1;
+    }
+    r
+}
+
+// The numbers of the functions that are nested in function `me`, and their counts of upvalues; gives how many there was room
+// for.
+fn fill_nested(
+    s: &[u8],
+    functions: Functions,
+    me: u32,
+    numbers: &mut [u32],
+    captured: &mut [u8],
+) -> usize
+    ensures numbers { λ r. ⌜ Filled r (min (length (now (numbers .entry))) (length (now (captured .entry)))) (nestedIn numberIn me 0 (heldOf functions)) (now (numbers .entry)) (now (numbers .exit)) ⌝ }
+    ensures captured { λ r. ⌜ Filled r (min (length (now (numbers .entry))) (length (now (captured .entry)))) (nestedIn (upvaluesIn (now (s .entry))) me 0 (heldOf functions)) (now (captured .entry)) (now (captured .exit)) ⌝ }
+{
+    let count = held(functions);
+    let room = least(numbers.len(), captured.len());
+    let mut n: usize = 0;
+    let mut k = next_nested(functions, me, 1);
+    while k < count {
+        if room <= n {
+            return n;
+        }
+        numbers[n] = k as u32;
+        captured[n] = byte_at(s, bytes_of(s, functions.starts[k] as usize));
+        n += 1;
+        k = next_nested(functions, me, k + 1);
+    }
+    n
+}
+
+// Function f of a chunk that was walked: its head, and in the buffers its words, the kinds and the places of its constants,
+// the numbers of the functions nested in it and their counts of upvalues, each list as far as there is room.
+pub fn function_at(
+    s: &[u8],
+    functions: Functions,
+    f: u32,
+    words: &mut [u32],
+    kinds: &mut [u8],
+    places: &mut [u32],
+    nested: &mut [u32],
+    captured: &mut [u8],
+) -> Loaded
+    ensures { λ r. ⌜ Loads (now (s .entry)) (heldOf functions) f r (now (words .entry)) (now (words .exit)) (now (kinds .entry)) (now (kinds .exit)) (now (places .entry)) (now (places .exit)) (now (nested .entry)) (now (nested .exit)) (now (captured .entry)) (now (captured .exit)) ⌝ }
+{
+    let start = start_of(functions, f as usize);
+    let head = head_at(s, functions, f);
+    Loaded {
+        head,
+        words: fill_words(s, start, words),
+        constants: fill_constants(s, start, kinds, places),
+        nested: fill_nested(s, functions, f, nested, captured),
+    }
+}

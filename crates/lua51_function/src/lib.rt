@@ -1,0 +1,2 @@
+// One function of a chunk, read into buffers that the caller lends.
+pub mod function;
