@@ -24,7 +24,7 @@ use Rattle.lua51_lifter.specs.Lift.{rk, condition, concatenated, captures, take
 use Rattle.lua51_lifter.specs.Lift.{statements, onThen}
 use Rattle.lua51_lifter.specs.Blocks.{front, leads, codeBlock, entryBlock, betweenBlock, graph}
 use Rattle.lua51_lifter.specs.Listing.{value, constantLines, statementLine, edgeLine, blockLine, blockLines, listing}
-use Rattle.reading.specs.Reading.{judgeFrom, judgeRead, judge, listingOf}
+use Rattle.judging.specs.Judge.{judgeFrom, judgeRead, judge, listingOf}
 use Rattle.reading.specs.Program.{listings, piecesFor, pieces}
 use Rattle.follow.specs.Account.{onward, account}
 use Rattle.follow.specs.GraphFollower.{fold, folds, marked, marks, opensOf, opensIn, inside, outside, insides, outsides}

@@ -1,7 +1,6 @@
 -- P10's lengths, for every list. Assumes nothing.
 use Rattle.lua51_deserializer.specs.Chunk.{Read, refused, Place, protoAt, walk}
 use Rattle.lua51_deserializer.proofs.Numbers.{Later, goes-on, later, short-later, long-refused}
-use Rattle.reading.specs.Reading.{judged}
 use Rattle.lua51_lifter.specs.Check.{Verdict}
 use Rattle.lua51_lifter.proofs.Verdicts.{From, not-one, from-on, check-from}
 use Prim.Native.Nat.{ℕ, zero, suc, _+_, _≤_}
@@ -9,7 +8,7 @@ use native.Mathlib.Omega.{arith}
 use mathlib.Core.Path.{_≡_}
 use mathlib.Core.List.{List}
 use lib.ListN.{length}
-use Rattle.reading.specs.Reading.{judge, Answer, judgeRead, judgeFrom, refusal, given}
+use Rattle.judging.specs.Judge.{judge, Answer, judged, judgeRead, judgeFrom, refusal, given}
 use Rattle.cases.specs.Lengths.{Lengths}
 
 -- a count, or a refusal from 2 on

@@ -8,7 +8,7 @@ use Rattle.lua51_deserializer.specs.Proto.{Proto}
 use Rattle.lua51_deserializer.specs.Chunk.{walk, protoAt}
 use Rattle.ast.specs.Statement.{expr, run}
 use Rattle.lua51_lifter.specs.Blocks.{Block, graph}
-use Rattle.reading.specs.Reading.{Answer, given, refusal, judge, listingOf}
+use Rattle.judging.specs.Judge.{Answer, given, refusal, judge, listingOf}
 use Rattle.reading.specs.Program.{pieces}
 use Rattle.follow.specs.Account.{holds, continues, does, opens, Event, action, question, answer, pause, ended, lost}
 use Rattle.follow.specs.GraphFollower.{no-block, byGraph}

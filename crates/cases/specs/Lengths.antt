@@ -3,7 +3,7 @@ use Prim.Native.Nat.{ℕ}
 use mathlib.Core.Path.{_≡_}
 use mathlib.Core.List.{List}
 use lib.ListN.{length}
-use Rattle.reading.specs.Reading.{refusal, judge}
+use Rattle.judging.specs.Judge.{refusal, judge}
 
 pub record Lengths : Type 0 where
   pub stands : (s : List ℕ) → length s ≡ 65536 → (f p : ℕ) → judge s ≡ refusal 1 f p → ⊥

@@ -1,13 +1,13 @@
 // Runs recorded chunks through the walk and the judgement, and holds the answers to the records of data/cases, whose form
 // README.md gives. Writes how many agree and how many differ, and the index of the first that differs.
+use judging::Answer;
+use judging::judge;
 use lua51_checker::check::Verdict;
 use lua51_deserializer::bytes::int_at;
 use lua51_deserializer::chunk::Functions;
 use lua51_deserializer::chunk::Walked;
 use lua51_deserializer::chunk::walk;
 use lua51_deserializer::fields::Cursor;
-use reading::Answer;
-use reading::judge;
 ghost use Prim.Native.Nat.{_<_, _^_};
 ghost use Rattle.io.specs.Counts.{Counts};
 
@@ -176,6 +176,9 @@ fn same_judgement(answer: Answer, head: &[u8]) -> bool {
         }
         Answer::Chunk(cursor) => same_refusal(refusal_of(cursor), head),
         Answer::Function(f, verdict) => same_refusal(refusal_in(f, verdict), head),
+        Answer::NotOpened(f) => same_refusal(refused_at(31, f, 0), head),
+        Answer::NoFunction(f) => same_refusal(refused_at(32, f, 0), head),
+        Answer::OutputShort(f) => same_refusal(refused_at(33, f, 0), head),
     }
 }
 

@@ -9,11 +9,12 @@ use Rattle.lua51_deserializer.specs.Chunk.{Read, here, refused}
 use Rattle.lua51_deserializer.specs.Cursor.{readOf}
 use Rattle.lua51_lifter.specs.Check.{Verdict, fine, wrong}
 use Rattle.lua51_checker.specs.Judgement.{verdictOf}
-use Rattle.reading.specs.Reading.{Answer, refusal, judged, judge, Reading, closed, openedBy, opening}
-use Rattle.reading.specs.Judging.{answerOf, chunkRefusal}
-use Rattle.reading.specs.declared.Answer as answers
-use Rattle.reading.specs.declared.Answer.the-variants.{Given, Chunk, Function}
-use Rattle.reading.proofs.Answer.{the-type as answer-type}
+use Rattle.judging.specs.Judge.{refusal, judged, judge}
+use Rattle.judging.specs.Answers.{answerOf, chunkRefusal}
+use Rattle.judging.specs.declared.Answer.{Answer}
+use Rattle.judging.specs.declared.Answer.the-variants.{Given, Chunk, Function, NotOpened, NoFunction, OutputShort}
+use Rattle.judging.proofs.Answer.{the-type as answer-type}
+use Rattle.reading.specs.Reading.{Reading, closed, openedBy, opening}
 
 chunk-closed : (r : Read) → closed ≡ openedBy (chunkRefusal r)
 unfolding openedBy
@@ -25,19 +26,27 @@ unfolding openedBy
 function-closed f fine = refl
 function-closed f (wrong n p) = refl
 
+-- the tags of the refusals
+abbrev pub refusals : List ℕ
+refusals = 1 ∷ 2 ∷ 3 ∷ 4 ∷ 5 ∷ []
+
 -- an answer that gives nothing leaves the reading closed
-pub refused-closed : (a : answers.Answer) → OneOf (1 ∷ 2 ∷ []) (tagOf answer-type a) → closed ≡ openedBy (answerOf a)
-refused-closed (Given n) h = absurd (miss (1 ∷ 2 ∷ []) 0 tt h)
+pub refused-closed : (a : Answer) → OneOf refusals (tagOf answer-type a) → closed ≡ openedBy (answerOf a)
+unfolding openedBy
+refused-closed (Given n) h = absurd (miss refusals 0 tt h)
 refused-closed (Chunk c) h = chunk-closed (readOf c)
 refused-closed (Function f v) h = function-closed f (verdictOf v)
+refused-closed (NotOpened f) h = refl
+refused-closed (NoFunction f) h = refl
+refused-closed (OutputShort f) h = refl
 
 -- an answer that gives a count opens it, at function 0
-pub given-opened : (a : answers.Answer) (n : ℕ) → a ≡ Given n → record { is-open = true; next = 0 } ≡ openedBy (answerOf a)
+pub given-opened : (a : Answer) (n : ℕ) → a ≡ Given n → record { is-open = true; next = 0 } ≡ openedBy (answerOf a)
 unfolding openedBy
 given-opened a n e = rw e
 
 -- the reading that follows from the judgement is the opening's
-pub opens : (s out : List ℕ) (a : answers.Answer) (r : Reading) → answerOf a ≡ judge s → r ≡ openedBy (answerOf a)
+pub opens : (s out : List ℕ) (a : Answer) (r : Reading) → answerOf a ≡ judge s → r ≡ openedBy (answerOf a)
     → record { answer = answerOf a; reading = r; output = out } ≡ opening s out
 unfolding opening
 opens s out a r e q = λ i. record { answer = e i; reading = (q ∙ ap openedBy e) i; output = out }

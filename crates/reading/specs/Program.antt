@@ -5,7 +5,7 @@ use mathlib.Core.List.{List, [], _∷_}
 use lib.Dec.{ltb}
 use lib.ListN.{length}
 use Rattle.lines.specs.Line.{line, letter-X}
-use Rattle.reading.specs.Reading.{Answer, given, refusal, judge, listingOf}
+use Rattle.judging.specs.Judge.{Answer, given, refusal, judge, listingOf}
 
 -- 'Its output buffer is 65,536 bytes'
 abbrev pub buffer : ℕ

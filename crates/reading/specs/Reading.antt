@@ -1,45 +1,10 @@
--- Judging a chunk; opening and delivering, with what each leaves (document 01, 'Refusals from the input' and 'Refusals from
--- the state').
-use Prim.Native.Nat.{ℕ, zero, suc, _+_}
+-- Opening and delivering, with what each leaves (document 01, 'Refusals from the state').
+use Prim.Native.Nat.{ℕ, _+_}
 use mathlib.Core.Bool.{Bool, true, false, cond}
 use mathlib.Core.List.{List, _++_}
 use lib.Dec.{leb, ltb}
 use lib.ListN.{length, drop}
-use Rattle.lua51_deserializer.specs.Chunk.{Read, here, refused, Place, walk, protoAt, constantsAt}
-use Rattle.lua51_lifter.specs.Check.{Verdict, fine, wrong, check}
-use Rattle.lua51_lifter.specs.Listing.{listing}
-
--- ------------------------------------------------------------ judging
-
--- a count or a length; or a refusal: 'Each gives number, function, place.'
-pub data Answer : Type 0 where
-  given : ℕ → Answer
-  refusal : ℕ → ℕ → ℕ → Answer
-
--- the verdict on function f, and then the answer for those behind it
-abbrev pub judged : ℕ → Verdict → Answer → Answer
-judged f fine rest = rest
-judged f (wrong n p) rest = refusal n f p
-
--- 'Then functions in number order, each wholly before the next': k of them from f on, and then their count in all
-unfoldable pub judgeFrom : List ℕ → List Place → ℕ → ℕ → Answer
-judgeFrom s ps f zero = given (length ps)
-judgeFrom s ps f (suc k) = judged f (check (protoAt s ps f)) (judgeFrom s ps (f + 1) k)
-
--- 'For 1 to 6 the function is 0.'
-unfoldable pub judgeRead : List ℕ → List Place → Read → Answer
-judgeRead s ps (refused n p) = refusal n 0 p
-judgeRead s ps (here i) = judgeFrom s ps 0 (length ps)
-
--- the judgement of a chunk: 'its count of functions', or its refusal from the input
-unfoldable pub judge : List ℕ → Answer
-judge s = judgeRead s (walk s .places) (walk s .read)
-
--- the listing of function f of a chunk
-unfoldable pub listingOf : List ℕ → ℕ → List ℕ
-listingOf s f = listing (protoAt s (walk s .places) f) (constantsAt s (walk s .places) f)
-
--- ------------------------------------------------------------ opening and delivering
+use Rattle.judging.specs.Judge.{Answer, given, refusal, judge, listingOf}
 
 -- 'The reading is a value that goes in and comes back': whether it is open, and the next function
 pub record Reading : Type 0 where

@@ -4,14 +4,14 @@ use mathlib.Core.Path.{sym}
 use native.Mathlib.Omega.{arith}
 use lib.Seq.{length-take-le}
 use Rattle.lua51_deserializer.specs.Chunk.{most-words}
-use Rattle.reading.proofs.Judging.{holds-function}
+use Rattle.judging.proofs.Judging.{holds-function}
 use borrow.Author.Needs.{needs}
-use Rattle.reading.proofs.check_function.Statement.{statement}
-use Rattle.reading.proofs.check_function.Tie as tie
-use Rattle.reading.proofs.check_function.Reads as reads
-use Rattle.reading.proofs.check_function.Lts as lts
+use Rattle.judging.proofs.check_function.Statement.{statement}
+use Rattle.judging.proofs.check_function.Tie as tie
+use Rattle.judging.proofs.check_function.Reads as reads
+use Rattle.judging.proofs.check_function.Lts as lts
 use Rattle.lua51_function.proofs.function.function_at.Reads as function-at-reads
-use Rattle.reading.proofs.check_loaded.Reads as check-loaded-reads
+use Rattle.judging.proofs.check_loaded.Reads as check-loaded-reads
 
 -- no function has more words than the buffers hold
 few-words : (d : lts.After-function-at (function-at-reads.Asked, function-at-reads.Learnt, check-loaded-reads.Asked, check-loaded-reads.Learnt) reads.Pre reads.Post) → d .function-at .result .words ≤ most-words

@@ -1,26 +1,22 @@
 -- What a delivery writes is followed as the lent words are. Assumes nothing.
-use mathlib.Core.Bool.{Bool, true, false, cond}
-use lib.Seq.{take-at}
-use Rattle.reading.specs.Reading.{given, refusal, Reading, written, delivery, listingOf, deliveredBy, judge, Answer}
-use Rattle.reading.specs.Reading.{unchanged}
 use Prim.Native.Nat.{ℕ, _<_}
-use native.Mathlib.Omega.{arith}
+use mathlib.Core.Bool.{Bool, true, false, cond}
 use mathlib.Core.Path.{_≡_, refl}
 use mathlib.Core.List.{List, _++_}
 use lib.Dec.{leb, ltb}
 use lib.ListN.{length, drop}
+use lib.Seq.{take-at}
 use borrow.Author.Tests.{ltb-true}
-use Rattle.follow.specs.Delivered.{DeliveredFollowed, Printed}
 use Rattle.lua51_deserializer.specs.Proto.{Proto}
-use Rattle.lua51_lifter.specs.Listing.{listing}
 use Rattle.lua51_deserializer.specs.Chunk.{protoAt, walk}
-use Rattle.follow.specs.GraphFollower.{byGraph}
 use Rattle.lua51_lifter.specs.Blocks.{graph}
+use Rattle.lua51_lifter.specs.Listing.{listing}
+use Rattle.judging.specs.Judge.{Answer, given, refusal, judge, listingOf}
+use Rattle.judging.proofs.Acceptance.{refusal-not-given}
+use Rattle.follow.specs.GraphFollower.{byGraph}
 use Rattle.follow.proofs.Demand.{demand-three}
-
--- a refusal is no length
-never : {X : Type 0} (n f p m : ℕ) → refusal n f p ≡ given m → X
-never n f p m e = let z : _≡_ {A = ℕ} 0 1 = cc in absurd (omega arith)
+use Rattle.reading.specs.Reading.{Reading, written, delivery, deliveredBy, unchanged}
+use Rattle.reading.specs.Delivered.{DeliveredFollowed, Printed}
 
 module _ (r : Reading) (s o : List ℕ) (m : ℕ) where
   abbrev p : Proto
@@ -56,7 +52,7 @@ module _ (r : Reading) (s o : List ℕ) (m : ℕ) where
     where
       given-length : (x y : ℕ) → given x ≡ given y → x ≡ y
       given-length x y q = cc
-  by-room n j lt false e h = never 33 (r .next) 0 m (rw e at h)
+  by-room n j lt false e h = absurd (refusal-not-given 33 (r .next) 0 m (rw e at h))
 
   -- by the count of functions
   by-count : (n : ℕ) → judge s ≡ given n → (b : Bool) → ltb (r .next) n ≡ b
@@ -64,21 +60,21 @@ module _ (r : Reading) (s o : List ℕ) (m : ℕ) where
       → Printed s (r .next) m (deliveredBy r s o (given n) .output)
   unfolding deliveredBy
   by-count n j true e h = rw e (by-room n j (ltb-true (r .next) n e) (leb (length bytes) (length o)) refl (rw e at h))
-  by-count n j false e h = never 32 (r .next) 0 m (rw e at h)
+  by-count n j false e h = absurd (refusal-not-given 32 (r .next) 0 m (rw e at h))
 
   -- by the judgement
   by-judgement : (a : Answer) → judge s ≡ a → deliveredBy r s o a .answer ≡ given m
       → Printed s (r .next) m (deliveredBy r s o a .output)
   unfolding deliveredBy
   by-judgement (given n) j h = by-count n j (ltb (r .next) n) refl h
-  by-judgement (refusal n f q) j h = never n f q m h
+  by-judgement (refusal n f q) j h = absurd (refusal-not-given n f q m h)
 
   -- by whether the reading is open
   by-reading : (b : Bool)
       → cond b (deliveredBy r s o (judge s)) (unchanged r o (refusal 31 (r .next) 0)) .answer ≡ given m
       → Printed s (r .next) m (cond b (deliveredBy r s o (judge s)) (unchanged r o (refusal 31 (r .next) 0)) .output)
   by-reading true h = by-judgement (judge s) refl h
-  by-reading false h = never 31 (r .next) 0 m h
+  by-reading false h = absurd (refusal-not-given 31 (r .next) 0 m h)
 
 pub delivered-followed : DeliveredFollowed
 unfolding delivery

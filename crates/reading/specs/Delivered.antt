@@ -11,10 +11,11 @@ use Rattle.lua51_deserializer.specs.Chunk.{Value, walk, protoAt, constantsAt}
 use Rattle.cfg.specs.Graph.{entryOf}
 use Rattle.lua51_lifter.specs.Blocks.{Block}
 use Rattle.lua51_lifter.specs.Listing.{constantLines, blockLines}
-use Rattle.reading.specs.Reading.{given, Reading, delivery}
+use Rattle.judging.specs.Judge.{given}
 use Rattle.follow.specs.Account.{account, Beginning, unlost}
 use Rattle.follow.specs.GraphFollower.{graphStep}
 use Rattle.follow.specs.WordFollower.{byWords}
+use Rattle.reading.specs.Reading.{Reading, delivery}
 
 -- the F line of a function, its K lines, and then the lines of the blocks g
 abbrev pub linesOf : Proto → List Value → List Block → List ℕ

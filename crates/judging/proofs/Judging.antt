@@ -9,7 +9,7 @@ use denote.Enum.Declared.{tagOf}
 use Rattle.lua51_deserializer.specs.Chunk.{here, Place, Walk, walk, protoAt, most, most-words, most-functions}
 use Rattle.lua51_function.specs.Function.{heldOf, Loads, Holds}
 use Rattle.lua51_deserializer.specs.Proto.{Proto, size}
-use Rattle.lua51_deserializer.specs.Walked.{walkOf}
+use Rattle.lua51_deserializer.specs.Walked.{placesOf, walkOf}
 use Rattle.lua51_deserializer.specs.declared.chunk.Functions.{Functions}
 use Rattle.lua51_deserializer.specs.declared.chunk.Walked.{Walked}
 use Rattle.lua51_deserializer.specs.declared.fields.Cursor.the-variants.{Here}
@@ -28,9 +28,9 @@ use Rattle.lua51_checker.specs.declared.check.Verdict as found
 use Rattle.lua51_checker.specs.declared.check.Verdict.the-variants.{Fine}
 use Rattle.lua51_checker.proofs.Judging.{refuses}
 use Rattle.lua51_checker.proofs.check.Verdict.{the-type as verdict-type}
-use Rattle.reading.specs.Reading.{Answer, given, refusal, judged, judgeFrom, judgeRead, judge}
-use Rattle.reading.specs.Judging.{answerOf, Whole, Ready}
-use Rattle.reading.specs.declared.Answer.the-variants.{Chunk, Function}
+use Rattle.judging.specs.Judge.{Answer, given, refusal, judged, judgeFrom, judgeRead, judge}
+use Rattle.judging.specs.Answers.{answerOf, Whole, Ready}
+use Rattle.judging.specs.declared.Answer.the-variants.{Chunk, Function}
 
 -- ------------------------------------------------------------ a chunk that was read whole
 
@@ -57,15 +57,18 @@ holds-function {s} {functions} {f} {r} {ws} {ws′} {ks} {ks′} {cs} {cs′} {n
     holds-each s (record { cursor = Here end; functions = functions }) end f r ws ws′ ks ks′ cs cs′ ns ns′ us us′
     (ready .whole .walk) refl (ready .below) loads (ready .lists)
 
--- ------------------------------------------------------------ a chunk that was not
+-- ------------------------------------------------------------ the walk over a chunk
 
 module _ (s : List ℕ) (w : Walked) (e : walkOf w ≡ walk s) where
-  -- what its reading ended with is its judgement
+  -- where it ends in a refusal, that is the judgement
   pub judge-refused : OneOf refusals (tagOf the-type (w .cursor)) → answerOf (Chunk (w .cursor)) ≡ judge s
   unfolding judge judgeRead
   judge-refused h =
       let (n, p, q) = refusal-of (w .cursor) h in
       rw (sym (ap (λ (v : Walk). v .read) e) ∙ q) (rw q)
+
+  pub places-of : placesOf (w .functions) ≡ walk s .places
+  places-of = ap (λ (v : Walk). v .places) e
 
   pub whole-of : (at : ℕ) → w .cursor ≡ Here at → Whole s (w .functions)
   whole-of at h = record { end = at; walk = rw h at e }

@@ -1,9 +1,9 @@
 -- `check_loaded`: the leaders are marked, then the function is checked. Assumes nothing.
 use lib.ListN.{length}
-use Rattle.reading.proofs.Judging.{leaders-marked}
+use Rattle.judging.proofs.Judging.{leaders-marked}
 use borrow.Author.Needs.{needs}
-use Rattle.reading.proofs.check_loaded.Statement.{statement}
-use Rattle.reading.proofs.check_loaded.Tie as tie
+use Rattle.judging.proofs.check_loaded.Statement.{statement}
+use Rattle.judging.proofs.check_loaded.Tie as tie
 
 mark-leaders-requires : tie.Need-mark-leaders-requires
 mark-leaders-requires c κs = search needs

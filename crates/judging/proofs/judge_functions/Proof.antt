@@ -4,10 +4,10 @@ use mathlib.Core.Path.{_≡_, sym, ap, _∙_}
 use native.Mathlib.Omega.{arith}
 use borrow.Author.Needs.{needs}
 use Rattle.lua51_deserializer.specs.Chunk.{walk}
-use Rattle.reading.specs.Reading.{given, judgeFrom, judge}
-use Rattle.reading.proofs.Judging.{count-whole, few-functions, judge-whole, Buffers, function-refused, function-passed, functions-passed}
-use Rattle.reading.proofs.judge_functions.Statement.{statement}
-use Rattle.reading.proofs.judge_functions.Tie as tie
+use Rattle.judging.specs.Judge.{given, judgeFrom, judge}
+use Rattle.judging.proofs.Judging.{count-whole, few-functions, judge-whole, Buffers, function-refused, function-passed, functions-passed}
+use Rattle.judging.proofs.judge_functions.Statement.{statement}
+use Rattle.judging.proofs.judge_functions.Tie as tie
 
 abbrev Inv-loop : tie.InvT-loop
 Inv-loop s functions words₀ kinds₀ places₀ nested₀ captured₀ leaders₀ targets₀ count f₀ words kinds places nested captured leaders targets f =
