@@ -1,5 +1,6 @@
 -- Which loops have a between block, by the counts of entering edges. Assumes nothing.
 use Prim.Native.Nat.{ℕ, _+_, _≤_}
+use native.Mathlib.Omega.{arith}
 use mathlib.Core.Bool.{Bool, true, false, not}
 use mathlib.Core.List.{List}
 use mathlib.Core.Path.{_≡_, sym}
@@ -34,9 +35,12 @@ module _ (p : Proto) (i : ℕ) where
   unfolding isLoop
   generic-loops h = rw h
 
-  pub generic-then : opcode p i ≡ numberOf TFORLOOP → thenOf p i ≡ i + 1
+  pub other-then : (opcode p i ≡ numberOf FORLOOP → ⊥) → thenOf p i ≡ i + 1
   unfolding thenOf
-  generic-then h = rw h
+  other-then h = rw (ne-eqb (opcode p i) (numberOf FORLOOP) h)
+
+  pub generic-then : opcode p i ≡ numberOf TFORLOOP → thenOf p i ≡ i + 1
+  generic-then h = other-then (λ f. omega arith)
 
   pub none-diverted : (opcode p i ≡ numberOf FORLOOP → ⊥) → (opcode p i ≡ numberOf TFORLOOP → ⊥) → false ≡ diverted p i
   unfolding isLoop

@@ -3,8 +3,9 @@ ghost use mathlib.Core.Path.{_≡_};
 ghost use mathlib.Core.Bool.{not};
 ghost use lib.Dec.{eqb};
 ghost use lib.ListN.{length, getD};
-ghost use Rattle.lua51_deserializer.specs.Proto.{Proto};
-ghost use Rattle.cfg.specs.Graph.{diverted};
+ghost use Prim.Native.Nat.{_<_};
+ghost use Rattle.lua51_deserializer.specs.Proto.{Proto, size};
+ghost use Rattle.cfg.specs.Graph.{thenOf, diverted};
 ghost use Rattle.cfg.specs.Arrays.{table, Counted, betweensBefore};
 use crate::flow::target_of;
 use lua51_deserializer::instruction::opcode_of;
@@ -13,6 +14,20 @@ use lua51_deserializer::instruction::opcode_of;
 const FORLOOP: u8 = 31;
 
 const TFORLOOP: u8 = 33;
+
+// The word that the Then edge of word i goes to, where it has one.
+pub fn then_of(words: &[u32], i: usize) -> usize
+    ensures { λ r. ⌜ ((p : Proto) → p .words ≡ now (words .entry) → i < size p → r ≡ thenOf p i) ⌝ }
+{
+    if words.len() <= i {
+        return 0;
+    }
+    let word = words[i];
+    if opcode_of(word) == FORLOOP {
+        return target_of(i, word);
+    }
+    i + 1
+}
 
 // Whether other than one edge enters at a word; so it is where none is counted.
 fn is_shared(counts: &[usize], to: usize) -> bool

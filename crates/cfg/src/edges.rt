@@ -118,8 +118,8 @@ fn enter_all(counts: &mut [usize], edges: Edges)
     }
 }
 
-// Sets all counts to 0.
-fn clear(counts: &mut [usize])
+// Sets all numbers of an array to 0.
+pub fn clear(counts: &mut [usize])
     ensures { λ _. ⌜ now (counts .exit) ≡ table (λ _. 0) (length (now (counts .entry))) ⌝ }
 {
     let mut t = 0;

@@ -26,7 +26,8 @@ use Rattle.follow.proofs.Ends.{then-lands, then-loop, ended-each, onwar
 use Rattle.follow.proofs.Ends.{onward-arrival, ended-loop, ended-entry, ended-skip, ended-exit}
 use Rattle.ast.specs.Statement.{Stmt, set-register, nil}
 use Rattle.cfg.specs.Graph.{leader, diverted, past, blockOf, entryOf, betweenOf, entering, thenOf, isLoop, leaving}
-use Rattle.follow.proofs.Run.{Ran, run, leader-free, free}
+use Rattle.lua51_lifter.proofs.Captures.{leader-free, free}
+use Rattle.follow.proofs.Run.{Ran, run}
 use Rattle.follow.proofs.Words.{carried, carried-none, named-is, nils-plain, says, nils-are}
 use Rattle.lua51_deserializer.proofs.Tests.{either-way, clash}
 use Rattle.follow.specs.Demand.{Agree}

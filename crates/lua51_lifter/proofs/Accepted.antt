@@ -42,7 +42,15 @@ module _ (p : Proto) (ok : check p ≡ fine) where
   use-fine : (i : ℕ) → i < size p → useVerdict p i ≡ fine
   use-fine = first-all (useVerdict p) (size p) (else-then of-words of-uses from-words)
 
-  -- ------------------------------------------------------------ 8
+  -- ------------------------------------------------------------ 7 and 8
+
+  head-right : headFault p ≡ false
+  unfolding check
+  head-right = refused-not (headFault p) 7 0 (else-first (refuseIf (headFault p) 7 0) _ ok)
+
+  pub stack-few : p .stack ≤ 250
+  unfolding headFault
+  stack-few = ltb-false 250 (p .stack) (or-left _ _ (or-left _ _ (or-left _ _ (or-left _ _ head-right))))
 
   last-right : lastFault p ≡ false
   last-right = refused-not (lastFault p) 8 (size p - 1) (else-first (refuseIf (lastFault p) 8 (size p - 1)) (of-words else of-uses) from-last)

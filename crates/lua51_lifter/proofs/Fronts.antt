@@ -57,13 +57,18 @@ module _ (p : Proto) where
       (λ e. rw e (over-none (loop-at t) 0 (size p) (λ i lt. loop-at-none t (0 + i) (λ l q. h (0 + i) (omega arith) l q (eqb-true (entering p t) 1 e)))))
       (λ e. rw e)
 
+  -- a front that no word brings an assignment to
+  pub no-front : (t : ℕ) → (0 < t → opcode p (t - 1) ≡ numberOf TESTSET → ⊥)
+      → ((j : ℕ) → j < size p → isLoop p j ≡ true → thenOf p j ≡ t → entering p t ≡ 1 → ⊥) → front p t ≡ []
+  no-front t unset alone = front-parts t ∙ rw (set-none t unset) (loop-none t alone)
+
   -- ------------------------------------------------------------ an edge that brings nothing
 
   -- an edge of word i, which is no loop's only edge to t
   pub plain-front : (i t : ℕ) → i < size p → leader p (i + 1) ≡ true → 1 ≤ sent p i t
       → (isLoop p i ≡ true → thenOf p i ≡ t → 2 ≤ sent p i t) → (0 < t → opcode p (t - 1) ≡ numberOf TESTSET → ⊥)
       → front p t ≡ []
-  plain-front i t lt h e twice unset = front-parts t ∙ rw (set-none t unset) (loop-none t alone)
+  plain-front i t lt h e twice unset = no-front t unset alone
     where
       alone : (j : ℕ) → j < size p → isLoop p j ≡ true → thenOf p j ≡ t → entering p t ≡ 1 → ⊥
       alone j l q s one = either-way (eqb i j)
@@ -72,7 +77,7 @@ module _ (p : Proto) where
 
   -- the entry's edge
   pub entry-front : front p 0 ≡ []
-  entry-front = front-parts 0 ∙ rw (set-none 0 (λ l q. omega arith)) (loop-none 0 alone)
+  entry-front = no-front 0 (λ l q. omega arith) alone
     where
       alone : (j : ℕ) → j < size p → isLoop p j ≡ true → thenOf p j ≡ 0 → entering p 0 ≡ 1 → ⊥
       alone j l q s one = let f : 1 ≤ sent p j 0 = rw s at (loop-sends p j q) in omega (arith, entering-at p j 0 l (loop-leads p j l q))
@@ -80,7 +85,7 @@ module _ (p : Proto) where
   -- the edge of a between block
   pub diverted-front : (i : ℕ) → diverted p i ≡ true
       → (0 < thenOf p i → opcode p (thenOf p i - 1) ≡ numberOf TESTSET → ⊥) → front p (thenOf p i) ≡ []
-  diverted-front i h unset = front-parts (thenOf p i) ∙ rw (set-none (thenOf p i) unset) (loop-none (thenOf p i) (λ j l q s one. diverted-many p i h one))
+  diverted-front i h unset = no-front (thenOf p i) unset (λ j l q s one. diverted-many p i h one)
 
   -- ------------------------------------------------------------ an edge that brings an assignment
 
@@ -95,6 +100,12 @@ module _ (p : Proto) where
   -- TESTSET is no loop
   set-other : (i j : ℕ) → opcode p i ≡ numberOf TESTSET → isLoop p j ≡ true → i ≡ j → ⊥
   set-other i j e q z = let g : opcode p j ≡ numberOf TESTSET = rw z at e in loop-cases p j q (λ h. omega arith) (λ h. omega arith)
+
+  -- and stands among the words: behind the last every word reads 0
+  pub set-inside : (i : ℕ) → opcode p i ≡ numberOf TESTSET → i < size p
+  set-inside i e = either-way (ltb i (size p))
+      (λ l. ltb-true i (size p) l)
+      (λ l. let w : word p i ≡ 0 = word-beyond p i (ltb-false i (size p) l) in absurd (omega (arith, rw w at e)))
 
   -- the Then edge of a TESTSET
   pub set-front : (i : ℕ) → i < size p → opcode p i ≡ numberOf TESTSET → front p (i + 1) ≡ onThen p i
@@ -114,13 +125,10 @@ module _ (p : Proto) where
       one : entering p (thenOf p i) ≡ 1
       one = undiverted-one p i h d
 
-      zero-set : (j : ℕ) → size p ≤ j → opcode p j ≡ numberOf TESTSET → ⊥
-      zero-set j l q = let w : word p j ≡ 0 = word-beyond p j l in omega (arith, rw w at q)
-
       unset : 0 < thenOf p i → opcode p (thenOf p i - 1) ≡ numberOf TESTSET → ⊥
       unset pos e =
           let back : thenOf p i - 1 + 1 ≡ thenOf p i = omega arith in
-          let small : thenOf p i - 1 < size p = either-way (ltb (thenOf p i - 1) (size p)) (λ l. ltb-true (thenOf p i - 1) (size p) l) (λ l. absurd (zero-set (thenOf p i - 1) (ltb-false (thenOf p i - 1) (size p) l) e)) in
+          let small : thenOf p i - 1 < size p = set-inside (thenOf p i - 1) e in
           crowd p (thenOf p i - 1) i (thenOf p i) small (set-leads (thenOf p i - 1) small e) (rw back at (set-sends (thenOf p i - 1) e)) (set-other (thenOf p i - 1) i e h) lt h refl one
 
       mine : loop-part (thenOf p i) ≡ onThen p i

@@ -1,5 +1,6 @@
 pub mod Verdicts
 pub mod Accepted
+pub mod Captures
 pub mod Blocks
 pub mod Fronts
 pub mod Examples

@@ -1,0 +1,4 @@
+pub mod Edges
+pub mod BlockLines
+pub mod Noting
+pub mod Loading
