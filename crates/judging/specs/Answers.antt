@@ -16,7 +16,7 @@ use Rattle.judging.specs.declared.Answer.the-variants.{Given, Chunk, Fun
 
 -- a chunk that is refused where its reading ended: 'For 1 to 6 the function is 0.' The number 0 stands for no refusal
 abbrev pub chunkRefusal : Read → judge.Answer
-chunkRefusal (here i) = refusal 0 0 i
+chunkRefusal (here i) = refusal 0 0 0
 chunkRefusal (refused n p) = refusal n 0 p
 
 -- document 01's number, function and place for each answer: `readOf` has the numbers and places of 1 to 6, `verdictOf` those of

@@ -1,4 +1,6 @@
 // Judging a chunk: its bytes, then its functions.
+pub mod refusal; // a refusal's number, function and place, and its line
+
 use cfg::marks::mark_leaders;
 use lua51_checker::check::Verdict;
 use lua51_checker::check::check;

@@ -2,12 +2,12 @@
 // README.md gives. Writes how many agree and how many differ, and the index of the first that differs.
 use judging::Answer;
 use judging::judge;
-use lua51_checker::check::Verdict;
+use judging::refusal::Refusal;
+use judging::refusal::refusal_of;
 use lua51_deserializer::bytes::int_at;
 use lua51_deserializer::chunk::Functions;
 use lua51_deserializer::chunk::Walked;
 use lua51_deserializer::chunk::walk;
-use lua51_deserializer::fields::Cursor;
 ghost use Prim.Native.Nat.{_<_, _^_};
 ghost use Rattle.io.specs.Counts.{Counts};
 
@@ -16,13 +16,6 @@ enum Outcome {
     Agrees,
     Differs,
     End,
-}
-
-// A refusal's number, function and place; all 0 where there is none.
-struct Refusal {
-    number: u32,
-    function: u32,
-    place: usize,
 }
 
 // A record begins with seven numbers of four bytes, at these offsets: of the walk, from NUMBER on, and of the judgement.
@@ -77,43 +70,6 @@ fn read_part(fd: i32, buf: &mut [u8], size: usize) -> usize
     io::read_full(fd, &mut buf[..size])
 }
 
-// A refusal by its number, at a place of a function.
-fn refused_at(number: u32, function: u32, place: usize) -> Refusal {
-    Refusal {
-        number,
-        function,
-        place,
-    }
-}
-
-// The refusal that a reading ended with.
-fn refusal_of(c: Cursor) -> Refusal {
-    match c {
-        Cursor::Here(_) => refused_at(0, 0, 0),
-        Cursor::TooLong => refused_at(1, 0, 0),
-        Cursor::HeaderDiffers(place) => refused_at(2, 0, place),
-        Cursor::Ended(place) => refused_at(3, 0, place),
-        Cursor::OutOfRange(place) => refused_at(4, 0, place),
-        Cursor::TooManyFunctions(place) => refused_at(5, 0, place),
-        Cursor::LeftOver(place) => refused_at(6, 0, place),
-    }
-}
-
-// The refusal that the check of function f found.
-fn refusal_in(f: u32, verdict: Verdict) -> Refusal {
-    match verdict {
-        Verdict::Fine => refused_at(0, f, 0),
-        Verdict::Head => refused_at(7, f, 0),
-        Verdict::Last(place) => refused_at(8, f, place),
-        Verdict::Operand(place) => refused_at(9, f, place),
-        Verdict::Target(place) => refused_at(10, f, place),
-        Verdict::Jump(place) => refused_at(11, f, place),
-        Verdict::Results(place) => refused_at(12, f, place),
-        Verdict::Captures(place) => refused_at(13, f, place),
-        Verdict::Shared(place) => refused_at(14, f, place),
-    }
-}
-
 // Whether the first `count` functions stand where the record has them.
 fn same_functions(functions: Functions, count: usize, recorded: &[u8]) -> bool {
     if MOST_FUNCTIONS < count {
@@ -141,8 +97,8 @@ fn same_walk(walked: Walked, head: &[u8], recorded: &[u8]) -> bool {
     let cursor = walked.cursor;
     let functions = walked.functions;
     let count = functions.count;
-    let refused = refusal_of(cursor);
-    if refused.number != int_at(head, NUMBER) {
+    let refused = refusal_of(Answer::Chunk(cursor));
+    if refused.number != number_at(head, NUMBER) {
         return false;
     }
     if refused.place != number_at(head, PLACE) {
@@ -156,10 +112,10 @@ fn same_walk(walked: Walked, head: &[u8], recorded: &[u8]) -> bool {
 
 // Whether a refusal is the one that the record has for the judgement.
 fn same_refusal(refused: Refusal, head: &[u8]) -> bool {
-    if refused.number != int_at(head, JUDGED_NUMBER) {
+    if refused.number != number_at(head, JUDGED_NUMBER) {
         return false;
     }
-    if refused.function != int_at(head, JUDGED_FUNCTION) {
+    if refused.function != number_at(head, JUDGED_FUNCTION) {
         return false;
     }
     refused.place == number_at(head, JUDGED_PLACE)
@@ -167,19 +123,12 @@ fn same_refusal(refused: Refusal, head: &[u8]) -> bool {
 
 // Whether the judgement is the recorded one. Of an accepted chunk it is the count of functions, which is the walk's.
 fn same_judgement(answer: Answer, head: &[u8]) -> bool {
-    match answer {
-        Answer::Given(count) => {
-            if count != number_at(head, COUNT) {
-                return false;
-            }
-            same_refusal(refused_at(0, 0, 0), head)
+    if let Answer::Given(count) = answer {
+        if count != number_at(head, COUNT) {
+            return false;
         }
-        Answer::Chunk(cursor) => same_refusal(refusal_of(cursor), head),
-        Answer::Function(f, verdict) => same_refusal(refusal_in(f, verdict), head),
-        Answer::NotOpened(f) => same_refusal(refused_at(31, f, 0), head),
-        Answer::NoFunction(f) => same_refusal(refused_at(32, f, 0), head),
-        Answer::OutputShort(f) => same_refusal(refused_at(33, f, 0), head),
     }
+    same_refusal(refusal_of(answer), head)
 }
 
 // The next record: read, walked, judged and compared. One that is not whole differs.

@@ -4,16 +4,12 @@ use mathlib.Core.Bool.{cond}
 use mathlib.Core.List.{List, [], _∷_}
 use lib.Dec.{ltb}
 use lib.ListN.{length}
-use Rattle.lines.specs.Line.{line, letter-X}
 use Rattle.judging.specs.Judge.{Answer, given, refusal, judge, listingOf}
+use Rattle.judging.specs.Refusal.{refusalLine}
 
 -- 'Its output buffer is 65,536 bytes'
 abbrev pub buffer : ℕ
 buffer = 65536
-
--- 'one line X: number, function, place'
-abbrev pub refusalLine : ℕ → ℕ → ℕ → List ℕ
-refusalLine n f p = line letter-X (n ∷ f ∷ p ∷ [])
 
 -- the listings of the k functions from f on, a piece each; 'a longer listing ends the run with X for 33'
 unfoldable pub listings : List ℕ → ℕ → ℕ → List (List ℕ)

@@ -1,0 +1,93 @@
+-- `refusal::chunk_refusal`: each cursor has the definition's number and place. Assumes nothing.
+use borrow.Author.Needs.{needs}
+use Rattle.judging.proofs.refusal.chunk_refusal.Statement.{statement}
+use Rattle.judging.proofs.refusal.chunk_refusal.Tie as tie
+
+enum-told : tie.Need-enum-told
+enum-told c = search needs
+
+refused-at-requires : tie.Need-refused-at-requires
+refused-at-requires c κs = search needs
+
+enum-told-2 : tie.Need-enum-told-2
+enum-told-2 c = search needs
+
+refused-at-requires-2 : tie.Need-refused-at-requires-2
+refused-at-requires-2 c κs = search needs
+
+enum-known-cursor : tie.Need-enum-known-cursor
+enum-known-cursor c = search needs
+
+refused-at-requires-3 : tie.Need-refused-at-requires-3
+refused-at-requires-3 c κs = search needs
+
+enum-known-cursor-2 : tie.Need-enum-known-cursor-2
+enum-known-cursor-2 c = search needs
+
+refused-at-requires-4 : tie.Need-refused-at-requires-4
+refused-at-requires-4 c κs = search needs
+
+enum-known-cursor-3 : tie.Need-enum-known-cursor-3
+enum-known-cursor-3 c = search needs
+
+refused-at-requires-5 : tie.Need-refused-at-requires-5
+refused-at-requires-5 c κs = search needs
+
+enum-known-cursor-4 : tie.Need-enum-known-cursor-4
+enum-known-cursor-4 c = search needs
+
+refused-at-requires-6 : tie.Need-refused-at-requires-6
+refused-at-requires-6 c κs = search needs
+
+enum-known-cursor-5 : tie.Need-enum-known-cursor-5
+enum-known-cursor-5 c = search needs
+
+refused-at-requires-7 : tie.Need-refused-at-requires-7
+refused-at-requires-7 c κs = search needs
+
+returns : tie.Need-returns
+returns c = rw (c .before .enum-told .given .1) (c .refused-at .ensures)
+
+returns-2 : tie.Need-returns-2
+returns-2 c = rw (c .before .enum-told2 .given .1) (c .refused-at2 .ensures)
+
+returns-3 : tie.Need-returns-3
+returns-3 c = rw (c .before .before .cursor .given .1) (c .refused-at3 .ensures)
+
+returns-4 : tie.Need-returns-4
+returns-4 c = rw (c .before .before .cursor2 .given .1) (c .refused-at4 .ensures)
+
+returns-5 : tie.Need-returns-5
+returns-5 c = rw (c .before .before .cursor3 .given .1) (c .refused-at5 .ensures)
+
+returns-6 : tie.Need-returns-6
+returns-6 c = rw (c .before .before .cursor4 .given .1) (c .refused-at6 .ensures)
+
+returns-7 : tie.Need-returns-7
+returns-7 c = rw (c .before .before .cursor5 .given .1) (c .refused-at7 .ensures)
+
+pub chunk-refusal-spec : {M : Type 1} → statement M
+chunk-refusal-spec =
+    tie.close
+    (tie.spec
+    enum-told
+    refused-at-requires
+    enum-told-2
+    refused-at-requires-2
+    enum-known-cursor
+    refused-at-requires-3
+    enum-known-cursor-2
+    refused-at-requires-4
+    enum-known-cursor-3
+    refused-at-requires-5
+    enum-known-cursor-4
+    refused-at-requires-6
+    enum-known-cursor-5
+    refused-at-requires-7
+    returns
+    returns-2
+    returns-3
+    returns-4
+    returns-5
+    returns-6
+    returns-7)
