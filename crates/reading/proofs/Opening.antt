@@ -1,44 +1,22 @@
 -- Laws of opening: which reading an answer leaves. Assumes nothing.
-use mathlib.Core.Path.{_≡_, refl, _∙_, ap}
+use mathlib.Core.Path.{_≡_, _∙_, ap}
 use mathlib.Core.Bool.{true}
-use mathlib.Core.List.{List, _∷_, []}
+use mathlib.Core.List.{List}
 use Prim.Native.Nat.{ℕ}
-use types.Run.{OneOf, miss}
+use types.Run.{OneOf}
 use denote.Enum.Declared.{tagOf}
-use Rattle.lua51_deserializer.specs.Chunk.{Read, here, refused}
-use Rattle.lua51_deserializer.specs.Cursor.{readOf}
-use Rattle.lua51_lifter.specs.Check.{Verdict, fine, wrong}
-use Rattle.lua51_checker.specs.Judgement.{verdictOf}
-use Rattle.judging.specs.Judge.{refusal, judged, judge}
-use Rattle.judging.specs.Answers.{answerOf, chunkRefusal}
+use Rattle.judging.specs.Judge.{judge}
+use Rattle.judging.specs.Answers.{answerOf}
 use Rattle.judging.specs.declared.Answer.{Answer}
-use Rattle.judging.specs.declared.Answer.the-variants.{Given, Chunk, Function, NotOpened, NoFunction, OutputShort}
+use Rattle.judging.specs.declared.Answer.the-variants.{Given}
 use Rattle.judging.proofs.Answer.{the-type as answer-type}
+use Rattle.judging.proofs.Refusals.{refusals, refused-by-tag}
 use Rattle.reading.specs.Reading.{Reading, closed, openedBy, opening}
-
-chunk-closed : (r : Read) → closed ≡ openedBy (chunkRefusal r)
-unfolding openedBy
-chunk-closed (here i) = refl
-chunk-closed (refused n p) = refl
-
-function-closed : (f : ℕ) (v : Verdict) → closed ≡ openedBy (judged f v (refusal 0 f 0))
-unfolding openedBy
-function-closed f fine = refl
-function-closed f (wrong n p) = refl
-
--- the tags of the refusals
-abbrev pub refusals : List ℕ
-refusals = 1 ∷ 2 ∷ 3 ∷ 4 ∷ 5 ∷ []
 
 -- an answer that gives nothing leaves the reading closed
 pub refused-closed : (a : Answer) → OneOf refusals (tagOf answer-type a) → closed ≡ openedBy (answerOf a)
 unfolding openedBy
-refused-closed (Given n) h = absurd (miss refusals 0 tt h)
-refused-closed (Chunk c) h = chunk-closed (readOf c)
-refused-closed (Function f v) h = function-closed f (verdictOf v)
-refused-closed (NotOpened f) h = refl
-refused-closed (NoFunction f) h = refl
-refused-closed (OutputShort f) h = refl
+refused-closed a h = rw (refused-by-tag a h .is)
 
 -- an answer that gives a count opens it, at function 0
 pub given-opened : (a : Answer) (n : ℕ) → a ≡ Given n → record { is-open = true; next = 0 } ≡ openedBy (answerOf a)

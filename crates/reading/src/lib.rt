@@ -1,4 +1,6 @@
-// Opening a chunk. Of delivering its listings so far the definitions only (specs/).
+// Opening a chunk, and delivering the listings of its functions one after the other.
+pub mod deliver; // the listing of the next function
+
 use judging::Answer;
 use judging::judge;
 ghost use mathlib.Core.Path.{_≡_};

@@ -1,0 +1,125 @@
+-- Laws of delivering: what a delivery is in each case, and how the code comes to it. Assumes nothing.
+use Prim.Native.Nat.{ℕ, _+_, _≤_, _<_, min}
+use native.Mathlib.Omega.{arith}
+use mathlib.Core.Bool.{true, false}
+use mathlib.Core.Path.{_≡_, sym, _∙_, ap}
+use mathlib.Core.List.{List, [], _++_}
+use lib.ListN.{length, drop}
+use borrow.Author.Tests.{lt-ltb, le-ltb, lt-leb, le-leb}
+use Rattle.lines.specs.Out.{Out, output, largest-usize, puts}
+use Rattle.lines.proofs.Puts.{puts-fit, puts-empty}
+use Rattle.lua51_deserializer.specs.Chunk.{here, walked, walk, protoAt, constantsAt, most-functions}
+use Rattle.lua51_deserializer.specs.Walked.{placesOf}
+use Rattle.lua51_deserializer.specs.declared.chunk.Functions.{Functions}
+use Rattle.lua51_lifter.specs.Check.{fine, check}
+use Rattle.lua51_lifter.specs.Listing.{listing}
+use Rattle.judging.specs.Judge.{Answer, given, refusal, judge, listingOf}
+use Rattle.judging.specs.Answers.{answerOf, Whole}
+use Rattle.judging.specs.declared.Answer as code
+use Rattle.judging.specs.declared.Answer.the-variants.{Given}
+use Rattle.judging.proofs.Acceptance.{accepted, accepted-count, accepted-whole}
+use Rattle.judging.proofs.Judging.{count-whole, few-functions}
+use Rattle.judging.proofs.Refusals.{Refused}
+use Rattle.reading.specs.Reading.{Reading, Outcome, unchanged, written, deliveredBy, delivery}
+use Rattle.reading.specs.Opening.{Next}
+use Rattle.reading.specs.Delivered.{Printed}
+use Rattle.reading.proofs.Delivered.{delivered-followed}
+
+-- ------------------------------------------------------------ a delivery, case by case
+
+module _ (r : Reading) (s out : List ℕ) where
+  -- 31
+  pub not-opened : r .is-open ≡ false → unchanged r out (refusal 31 (r .next) 0) ≡ delivery r s out
+  unfolding delivery
+  not-opened shut = rw shut
+
+  -- 1 to 14
+  pub input-refused : (a : Answer) → r .is-open ≡ true → a ≡ judge s → Refused a → unchanged r out a ≡ delivery r s out
+  unfolding delivery deliveredBy
+  input-refused a opened j refused = rw (opened, ← j, refused .is)
+
+  -- 32
+  pub no-function : (n : ℕ) → r .is-open ≡ true → judge s ≡ given n → n ≤ r .next
+      → unchanged r out (refusal 32 (r .next) 0) ≡ delivery r s out
+  unfolding delivery deliveredBy
+  no-function n opened j none = rw (opened, j, le-ltb)
+
+  -- 33, or the listing
+  pub next-written : (n : ℕ) → r .is-open ≡ true → judge s ≡ given n → r .next < n
+      → written r (listingOf s (r .next)) out ≡ delivery r s out
+  unfolding delivery deliveredBy
+  next-written n opened j below = rw (opened, j, lt-ltb)
+
+module _ (r : Reading) (bytes out : List ℕ) where
+  output-short : length out < length bytes → unchanged r out (refusal 33 (r .next) 0) ≡ written r bytes out
+  unfolding written
+  output-short short = rw lt-leb
+
+  listing-written : length bytes ≤ length out
+      → record {
+        answer = given (length bytes);
+        reading = record { is-open = true; next = r .next + 1 };
+        output = bytes ++ drop (length bytes) out;
+      }
+      ≡ written r bytes out
+  unfolding written
+  listing-written fits = rw le-leb
+
+-- ------------------------------------------------------------ counted first, then written
+
+-- what an empty output counts
+pub count-of : (none bytes : List ℕ) (n : ℕ) → output none n ≡ puts (output [] 0) bytes → n ≡ min (length bytes) largest-usize
+count-of none bytes n h = ap (λ (o : Out). o .at) (h ∙ puts-empty 0 bytes (omega arith)) ∙ omega arith
+
+-- where it counted n
+module _ (r : Reading) (bytes out : List ℕ) (n : ℕ) (counted : n ≡ min (length bytes) largest-usize) where
+  pub short-by-count : length out < n → unchanged r out (refusal 33 (r .next) 0) ≡ written r bytes out
+  short-by-count short = output-short r bytes out (omega arith)
+
+  -- and what was then printed into the output left out′
+  pub written-by-count : (out′ : List ℕ) (at : ℕ) → n ≤ length out → length out < largest-usize
+      → output out′ at ≡ puts (output out 0) bytes
+      → record { answer = given n; reading = record { is-open = true; next = r .next + 1 }; output = out′ } ≡ written r bytes out
+  written-by-count out′ at roomy few h =
+      let whole : n ≡ length bytes = omega arith in
+      let fits : length bytes ≤ length out = omega arith in
+      let e = h ∙ puts-fit out bytes fits (omega arith) in
+      (λ i. record {
+        answer = given (whole i);
+        reading = record { is-open = true; next = r .next + 1 };
+        output = e i .bytes;
+      })
+      ∙ listing-written r bytes out fits
+
+-- ------------------------------------------------------------ the next function
+
+-- the judgement, by the code's answer
+pub judge-given : (s : List ℕ) (a : code.Answer) (n : ℕ) → answerOf a ≡ judge s → a ≡ Given n → judge s ≡ given n
+judge-given s a n j e = sym j ∙ ap answerOf e
+
+module _ (s : List ℕ) (functions : Functions) (f : ℕ) (next : Next s functions f) where
+  whole : Whole s functions
+  whole = accepted-whole s functions (next .count) (next .judged) (next .places)
+
+  next-below : f < functions .count
+  next-below = omega (arith, next .below, accepted-count s (next .count) (next .judged), count-whole whole)
+
+  -- its number is small
+  pub next-few : f < most-functions
+  next-few = omega (arith, next-below, few-functions whole)
+
+  -- a printer of accepted functions prints its listing
+  pub next-listed : (o o′ : Out)
+      → ((end : ℕ) → walked (here end) (placesOf functions) ≡ walk s → f < functions .count
+      → check (protoAt s (walk s .places) f) ≡ fine
+      → o′ ≡ puts o (listing (protoAt s (walk s .places) f) (constantsAt s (walk s .places) f)))
+      → o′ ≡ puts o (listingOf s f)
+  unfolding listingOf
+  next-listed o o′ prints = prints (whole .end) (whole .walk) next-below (accepted s (next .count) f (next .judged) (next .below))
+
+-- ------------------------------------------------------------ demand 3
+
+-- what a delivery wrote is followed as the lent words are
+pub delivers : (d : Outcome) (r : Reading) (s out : List ℕ) → d ≡ delivery r s out
+    → (d ≡ delivery r s out) × ((m : ℕ) → d .answer ≡ given m → Printed s (r .next) m (d .output))
+delivers d r s out e = (e, λ m h. rw e (delivered-followed r s out m (rw e at h)))

@@ -1,0 +1,66 @@
+// Delivering the listing of a reading's next function.
+use crate::Reading;
+use judging::Answer;
+use judging::walk_and_judge;
+use listing::function::put_function;
+use lua51_deserializer::chunk::Functions;
+ghost use mathlib.Core.Path.{_≡_};
+ghost use mathlib.Core.List.{List};
+ghost use Prim.Native.Nat.{ℕ};
+ghost use Rattle.judging.specs.Judge.{given, listingOf};
+ghost use Rattle.judging.specs.Answers.{answerOf};
+ghost use Rattle.reading.specs.Reading.{unchanged, written, delivery};
+ghost use Rattle.reading.specs.Delivered.{Printed};
+ghost use Rattle.reading.specs.Opening.{readingOf, outcomeOf, Next};
+
+// What a delivery gives: the length of the listing or a refusal, and the reading.
+pub struct Delivered {
+    pub answer: Answer,
+    pub reading: Reading,
+}
+
+// A refused delivery: the reading keeps what it held.
+fn refused(reading: Reading, answer: Answer) -> Delivered
+    ensures { λ r. ⌜ ((out : List ℕ) → outcomeOf r out ≡ unchanged (readingOf reading) out (answerOf answer)) ⌝ }
+{
+    Delivered { answer, reading }
+}
+
+// Writes the listing of the next function from the output's start, where the output is long enough, and moves on by one. The
+// listing is first printed into an empty output, which only counts it.
+fn write_next(reading: Reading, s: &[u8], functions: Functions, out: &mut [u8]) -> Delivered
+    requires { ⌜ Next (now s) functions (reading .next) ⌝ }
+    ensures { λ r. ⌜ outcomeOf r (now (out .exit)) ≡ written (readingOf reading) (listingOf (now (s .entry)) (reading .next)) (now (out .entry)) ⌝ }
+{
+    let mut none = [0u8; 0];
+    let length = put_function(&mut none, 0, s, functions, reading.next);
+    if out.len() < length {
+        return refused(reading, Answer::OutputShort(reading.next));
+    }
+    put_function(out, 0, s, functions, reading.next);
+    let next = reading.next + 1;
+    Delivered {
+        answer: Answer::Given(length),
+        reading: Reading { opened: true, next },
+    }
+}
+
+// Judges the chunk afresh and writes the listing of the reading's next function. A refused delivery leaves the reading and the
+// output as they were.
+pub fn deliver(reading: Reading, s: &[u8], out: &mut [u8]) -> Delivered
+    ensures { λ r. ⌜ outcomeOf r (now (out .exit)) ≡ delivery (readingOf reading) (now (s .entry)) (now (out .entry)) ⌝ }
+    ensures followed { λ r. ⌜ ((m : ℕ) → answerOf (r .answer) ≡ given m → Printed (now (s .entry)) (reading .next) m (now (out .exit))) ⌝ }
+{
+    if !reading.opened {
+        return refused(reading, Answer::NotOpened(reading.next));
+    }
+    let judged = walk_and_judge(s);
+    let answer = judged.answer;
+    let Answer::Given(count) = answer else {
+        return refused(reading, answer);
+    };
+    if count <= reading.next as usize {
+        return refused(reading, Answer::NoFunction(reading.next));
+    }
+    write_next(reading, s, judged.functions, out)
+}
