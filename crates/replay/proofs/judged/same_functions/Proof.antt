@@ -1,8 +1,8 @@
--- `read_cases::same_functions` is safe and ends: each index is below the count, and that is at most 256. Assumes nothing.
+-- `judged::same_functions` is safe and ends: each index is below the count, and that is at most 256. Assumes nothing.
 use Prim.Native.Nat.{_≤_, _-_}
 use borrow.Author.Needs.{needs}
-use Rattle.read_cases.proofs.same_functions.Statement.{statement}
-use Rattle.read_cases.proofs.same_functions.Tie as tie
+use Rattle.replay.proofs.judged.same_functions.Statement.{statement}
+use Rattle.replay.proofs.judged.same_functions.Tie as tie
 
 abbrev Inv-loop : tie.InvT-loop
 Inv-loop count recorded functions i₀ i = (i ≤ count) × (count ≤ 256)

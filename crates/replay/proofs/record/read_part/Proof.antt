@@ -1,11 +1,11 @@
--- `read_cases::read_part` meets its contract: what is read into a part of the buffer lies within the buffer. Assumes nothing.
+-- `record::read_part` meets its contract: what is read into a part of the buffer lies within the buffer. Assumes nothing.
 use native.Mathlib.Omega.{arith}
 use lib.ListN.{length-take, length-append}
 use mathlib.Core.Path.{sym}
 use lib.Seq.{length-take-le}
 use borrow.Author.Needs.{needs}
-use Rattle.read_cases.proofs.read_part.Statement.{statement}
-use Rattle.read_cases.proofs.read_part.Tie as tie
+use Rattle.replay.proofs.record.read_part.Statement.{statement}
+use Rattle.replay.proofs.record.read_part.Tie as tie
 
 returns : tie.Need-returns
 returns c = search needs

@@ -1,5 +1,9 @@
-// Runs recorded chunks through the walk and the judgement, and holds the answers to the records of data/cases, whose form
-// README.md gives. Writes how many agree and how many differ, and the index of the first that differs.
+// Records of chunks with what the walk over them and their judgement answer.
+use crate::record::MOST_LENGTH;
+use crate::record::Outcome;
+use crate::record::number_at;
+use crate::record::outcome_of;
+use crate::record::read_part;
 use judging::Answer;
 use judging::judge;
 use judging::refusal::Refusal;
@@ -8,15 +12,6 @@ use lua51_deserializer::bytes::int_at;
 use lua51_deserializer::chunk::Functions;
 use lua51_deserializer::chunk::Walked;
 use lua51_deserializer::chunk::walk;
-ghost use Prim.Native.Nat.{_<_, _^_};
-ghost use Rattle.io.specs.Counts.{Counts};
-
-// What comes of reading one record.
-enum Outcome {
-    Agrees,
-    Differs,
-    End,
-}
 
 // A record begins with seven numbers of four bytes, at these offsets: of the walk, from NUMBER on, and of the judgement.
 const HEAD_SIZE: usize = 28;
@@ -47,28 +42,6 @@ const PARENT: usize = 8;
 const MOST_FUNCTIONS: usize = 256;
 
 const MOST_FUNCTION_BYTES: usize = 3072;
-
-// Then the chunk, of at most one byte more than is taken.
-const MOST_LENGTH: usize = 65537;
-
-const MOST_RECORDS: u64 = 1000000;
-
-// The number at offset `at`.
-fn number_at(s: &[u8], at: usize) -> usize
-    ensures { λ r. ⌜ r < 2 ^ 32 ⌝ }
-{
-    int_at(s, at) as usize
-}
-
-// Reads the next `size` bytes of the file into `buf`, and answers how many it read: none where `buf` is too short.
-fn read_part(fd: i32, buf: &mut [u8], size: usize) -> usize
-    ensures { λ r. ⌜ Counts r (now (buf .exit)) ⌝ }
-{
-    if buf.len() < size {
-        return 0;
-    }
-    io::read_full(fd, &mut buf[..size])
-}
 
 // Whether the first `count` functions stand where the record has them.
 fn same_functions(functions: Functions, count: usize, recorded: &[u8]) -> bool {
@@ -132,7 +105,7 @@ fn same_judgement(answer: Answer, head: &[u8]) -> bool {
 }
 
 // The next record: read, walked, judged and compared. One that is not whole differs.
-fn record(fd: i32) -> Outcome {
+pub fn judged_record(fd: i32) -> Outcome {
     let mut head = [0u8; HEAD_SIZE];
     let got = io::read_full(fd, &mut head);
     if got == 0 {
@@ -155,56 +128,5 @@ fn record(fd: i32) -> Outcome {
     if !same_walk(walk(&chunk[..n]), &head, &recorded) {
         return Outcome::Differs;
     }
-    if same_judgement(judge(&chunk[..n]), &head) {
-        Outcome::Agrees
-    } else {
-        Outcome::Differs
-    }
-}
-
-// The count of records that agree and of those that differ; and the index of the first that differs.
-fn say(agree: u64, differ: u64, first: u64) {
-    io::print_decimal(1, agree);
-    io::write_all(1, b" agree, ");
-    io::print_decimal(1, differ);
-    io::write_all(1, b" differ\n");
-    if 0 < differ {
-        io::write_all(1, b"the first that differs: ");
-        io::print_decimal(1, first);
-        io::write_all(1, b"\n");
-    }
-}
-
-// All records to the end of the file.
-fn all(fd: i32) {
-    let mut left = MOST_RECORDS;
-    let mut agree: u64 = 0;
-    let mut differ: u64 = 0;
-    let mut first: u64 = 0;
-    while 0 < left {
-        let outcome = record(fd);
-        match outcome {
-            Outcome::End => break,
-            Outcome::Agrees => agree += 1,
-            Outcome::Differs => {
-                if differ == 0 {
-                    first = agree;
-                }
-                differ += 1;
-            }
-        }
-        left -= 1;
-    }
-    say(agree, differ, first);
-}
-
-fn main() {
-    let path = b"cases";
-    let fd = os::open_read(path);
-    if fd < 0 {
-        os::fail(path);
-        return;
-    }
-    all(fd);
-    libc::close(fd);
+    outcome_of(same_judgement(judge(&chunk[..n]), &head))
 }

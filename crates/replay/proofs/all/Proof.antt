@@ -1,23 +1,23 @@
--- `read_cases::all` is safe and ends: the records left fall with each turn, and with those counted they never exceed the most.
+-- `all` is safe and ends: the records left fall with each turn, and with those counted they never exceed the most.
 -- Assumes nothing.
 use mathlib.Core.Logic.{⊎-elim}
 use native.Mathlib.Omega.{arith}
 use Prim.Native.Nat.{_+_, _≤_}
 use borrow.Author.Needs.{needs}
-use Rattle.read_cases.proofs.all.Statement.{statement}
-use Rattle.read_cases.proofs.all.Tie as tie
+use Rattle.replay.proofs.all.Statement.{statement}
+use Rattle.replay.proofs.all.Tie as tie
 
 abbrev Inv-loop : tie.InvT-loop
-Inv-loop fd left₀ agree₀ differ₀ first₀ left agree differ first = (left + agree + differ ≤ 1000000)
+Inv-loop fd kind left₀ agree₀ differ₀ first₀ left agree differ first = (left + agree + differ ≤ 1000000)
 
 abbrev μ-loop : tie.MeasureT-loop
-μ-loop fd left₀ agree₀ differ₀ first₀ left agree differ first = left
+μ-loop fd kind left₀ agree₀ differ₀ first₀ left agree differ first = left
 
 loop-holds : tie.Need-loop-holds Inv-loop μ-loop
 loop-holds c = search needs
 
-record-requires : tie.Need-record-requires Inv-loop μ-loop
-record-requires c κs = search needs
+next-record-requires : tie.Need-next-record-requires Inv-loop μ-loop
+next-record-requires c κs = search needs
 
 enum-told : tie.Need-enum-told Inv-loop μ-loop
 enum-told c = search needs
@@ -56,7 +56,7 @@ all-spec =
     Inv-loop
     μ-loop
     loop-holds
-    record-requires
+    next-record-requires
     enum-told
     enum-told-2
     add-agree
