@@ -17,7 +17,7 @@ use Rattle.lua51_deserializer.specs.Cursor.{readOf}
 use Rattle.lua51_deserializer.proofs.Range.{over-split}
 use Rattle.lua51_lifter.specs.Check.{Verdict, fine, wrong}
 use Rattle.lua51_lifter.specs.Listing.{listing}
-use Rattle.lua51_checker.specs.Judgement.{verdictOf}
+use Rattle.lua51_uses.specs.Judgement.{verdictOf}
 use Rattle.judging.specs.Judge as judge
 use Rattle.judging.specs.Judge.{given, refusal, judged, listingOf}
 use Rattle.judging.specs.Answers.{answerOf, chunkRefusal}

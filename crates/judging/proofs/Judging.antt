@@ -23,11 +23,12 @@ use Rattle.cfg.specs.Arrays.{table, mark}
 use Rattle.cfg.specs.Graph.{leader}
 use Rattle.cfg.proofs.Tables.{table-at}
 use Rattle.lua51_lifter.specs.Check.{Verdict, fine, wrong, _else_, check}
-use Rattle.lua51_checker.specs.Judgement.{verdictOf, Marked}
-use Rattle.lua51_checker.specs.declared.check.Verdict as found
-use Rattle.lua51_checker.specs.declared.check.Verdict.the-variants.{Fine}
-use Rattle.lua51_checker.proofs.Judging.{refuses}
-use Rattle.lua51_checker.proofs.check.Verdict.{the-type as verdict-type}
+use Rattle.lua51_reach.specs.Targets.{Marked}
+use Rattle.lua51_uses.specs.Judgement.{verdictOf}
+use Rattle.lua51_uses.specs.declared.verdict.Verdict as found
+use Rattle.lua51_uses.specs.declared.verdict.Verdict.the-variants.{Fine}
+use Rattle.lua51_uses.proofs.FirstRefusal.{refuses}
+use Rattle.lua51_uses.proofs.verdict.Verdict.{the-type as verdict-type}
 use Rattle.judging.specs.Judge.{Answer, given, refusal, judged, judgeFrom, judgeRead, judge}
 use Rattle.judging.specs.Answers.{answerOf, Whole, Ready}
 use Rattle.judging.specs.declared.Answer.the-variants.{Chunk, Function}

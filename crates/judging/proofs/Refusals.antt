@@ -7,7 +7,7 @@ use denote.Enum.Declared.{tagOf}
 use Rattle.lua51_deserializer.specs.Chunk.{Read, here, refused}
 use Rattle.lua51_deserializer.specs.Cursor.{readOf}
 use Rattle.lua51_lifter.specs.Check.{Verdict, fine, wrong}
-use Rattle.lua51_checker.specs.Judgement.{verdictOf}
+use Rattle.lua51_uses.specs.Judgement.{verdictOf}
 use Rattle.judging.specs.Judge as judge
 use Rattle.judging.specs.Judge.{refusal, judged}
 use Rattle.judging.specs.Answers.{answerOf, chunkRefusal}

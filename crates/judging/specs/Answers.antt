@@ -8,7 +8,7 @@ use Rattle.lua51_deserializer.specs.Cursor.{readOf}
 use Rattle.lua51_function.specs.Function.{Roomy}
 use Rattle.lua51_deserializer.specs.Walked.{placesOf}
 use Rattle.lua51_deserializer.specs.declared.chunk.Functions.{Functions}
-use Rattle.lua51_checker.specs.Judgement.{verdictOf}
+use Rattle.lua51_uses.specs.Judgement.{verdictOf}
 use Rattle.judging.specs.Judge as judge
 use Rattle.judging.specs.Judge.{given, refusal, judged}
 use Rattle.judging.specs.declared.Answer.{Answer}

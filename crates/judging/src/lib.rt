@@ -2,13 +2,13 @@
 pub mod refusal; // a refusal's number, function and place, and its line
 
 use cfg::marks::mark_leaders;
-use lua51_checker::check::Verdict;
 use lua51_checker::check::check;
 use lua51_deserializer::chunk::Functions;
 use lua51_deserializer::chunk::walk;
 use lua51_deserializer::fields::Cursor;
 use lua51_function::function::Head;
 use lua51_function::function::function_at;
+use lua51_uses::verdict::Verdict;
 ghost use mathlib.Core.Path.{_≡_};
 ghost use Prim.Native.Nat.{_<_};
 ghost use lib.ListN.{length};
@@ -17,7 +17,7 @@ ghost use Rattle.lua51_function.specs.Function.{Stands};
 ghost use Rattle.lua51_deserializer.specs.Chunk.{walk, protoAt};
 ghost use Rattle.lua51_deserializer.specs.Walked.{placesOf};
 ghost use Rattle.lua51_lifter.specs.Check.{check};
-ghost use Rattle.lua51_checker.specs.Judgement.{verdictOf};
+ghost use Rattle.lua51_uses.specs.Judgement.{verdictOf};
 ghost use Rattle.judging.specs.Judge.{judge};
 ghost use Rattle.judging.specs.Answers.{answerOf, Whole, Ready};
 

@@ -1,12 +1,12 @@
 // A refusal's number, function and place (document 01, 'Refusals from the input' and 'from the state'), and its line.
 use crate::Answer;
 use lines::put_wide_line;
-use lua51_checker::check::Verdict;
 use lua51_deserializer::fields::Cursor;
+use lua51_uses::verdict::Verdict;
 ghost use mathlib.Core.Path.{_≡_};
 ghost use Rattle.lines.specs.Out.{output, puts};
 ghost use Rattle.lua51_deserializer.specs.Cursor.{readOf};
-ghost use Rattle.lua51_checker.specs.Judgement.{verdictOf};
+ghost use Rattle.lua51_uses.specs.Judgement.{verdictOf};
 ghost use Rattle.judging.specs.Judge.{refusal, judged};
 ghost use Rattle.judging.specs.Answers.{answerOf, chunkRefusal};
 ghost use Rattle.judging.specs.Refusal.{refusalBy, refusedBy, refusalLine};

@@ -8,47 +8,23 @@ ghost use lib.ListN.{length};
 ghost use Rattle.lua51_deserializer.specs.Proto.{Proto, size};
 ghost use Rattle.lua51_function.specs.Function.{Stands};
 ghost use Rattle.cfg.specs.Graph.{leader};
-ghost use Rattle.lua51_lifter.specs.Check.{headFault, lastFault, wordVerdict, useVerdict, firstRefusal, reached, fine, check};
-ghost use Rattle.lua51_checker.specs.Judgement.{verdictOf, Marked, Surveyed, checkWords};
-use crate::marks::mark_reached;
-use crate::marks::marked;
-use crate::operands::has_arg;
-use crate::operands::needs_arg;
-use crate::operands::operand_fault;
-use crate::reach::asks;
-use crate::reach::lands_inside;
-use crate::results::captures_missing;
-use crate::results::results_missing;
-use crate::results::results_unused;
-use crate::words::JMP;
-use crate::words::RETURN;
-use crate::words::TESTSET;
-use crate::words::word_at;
-use crate::words::word_behind;
+ghost use Rattle.lua51_lifter.specs.Check.{headFault, lastFault, wordVerdict, firstRefusal, fine, check};
+ghost use Rattle.lua51_reach.specs.Targets.{Marked};
+ghost use Rattle.lua51_uses.specs.Judgement.{verdictOf, checkWords};
 use lua51_deserializer::instruction::decode;
 use lua51_deserializer::instruction::opcode_of;
 use lua51_function::function::Head;
-
-// What a check finds: nothing, or the first fault, with its word.
-pub enum Verdict {
-    Fine,
-    // 7: the head contradicts itself.
-    Head,
-    // 8: there are no words, or the last is not RETURN.
-    Last(usize),
-    // 9: an opcode or an operand is outside.
-    Operand(usize),
-    // 10: a target or a skip is outside.
-    Target(usize),
-    // 11: a test without its jump.
-    Jump(usize),
-    // 12: open results without their user, or a user without open results.
-    Results(usize),
-    // 13: a closure without its captures.
-    Captures(usize),
-    // 14: the word behind a TESTSET can be reached from elsewhere.
-    Shared(usize),
-}
+use lua51_operands::operands::has_arg;
+use lua51_operands::operands::needs_arg;
+use lua51_operands::operands::operand_fault;
+use lua51_operands::words::JMP;
+use lua51_operands::words::RETURN;
+use lua51_operands::words::word_at;
+use lua51_operands::words::word_behind;
+use lua51_reach::reach::asks;
+use lua51_reach::reach::lands_inside;
+use lua51_uses::uses::check_uses;
+use lua51_uses::verdict::Verdict;
 
 // ------------------------------------------------------------ 7 and 8: the function's head
 
@@ -128,49 +104,6 @@ pub fn words_verdict(head: Head, words: &[u32], kinds: &[u8], nested: &[u32]) ->
     Verdict::Fine
 }
 
-// ------------------------------------------------------------ 12 to 14: words among words
-
-// The verdict on word i among the others: its open results, then its captures, then the word behind a TESTSET. Leaders are
-// marked by 1, and so are the words that are a jump target or a skip.
-pub fn use_verdict(
-    words: &[u32],
-    captured: &[u8],
-    leaders: &[u8],
-    targets: &[u8],
-    i: usize,
-) -> Verdict
-    ensures { λ r. ⌜ ((p : Proto) → Surveyed p (now (words .entry)) (now (captured .entry)) (now (leaders .entry)) (now (targets .entry)) → verdictOf r ≡ useVerdict p i) ⌝ }
-{
-    if words.len() <= i {
-        return Verdict::Fine;
-    }
-    if results_unused(words, leaders, i) | results_missing(words, leaders, i) {
-        return Verdict::Results(i);
-    }
-    if captures_missing(words, captured, leaders, i) {
-        return Verdict::Captures(i);
-    }
-    if (opcode_of(word_at(words, i)) == TESTSET) & marked(targets, i + 1) {
-        return Verdict::Shared(i);
-    }
-    Verdict::Fine
-}
-
-// The first verdict on a word among the others that is not fine.
-fn uses_verdict(words: &[u32], captured: &[u8], leaders: &[u8], targets: &[u8]) -> Verdict
-    ensures { λ r. ⌜ ((p : Proto) → Surveyed p (now (words .entry)) (now (captured .entry)) (now (leaders .entry)) (now (targets .entry)) → verdictOf r ≡ firstRefusal (useVerdict p) 0 (size p)) ⌝ }
-{
-    let mut i = 0;
-    while i < words.len() {
-        let verdict = use_verdict(words, captured, leaders, targets, i);
-        let Verdict::Fine = verdict else {
-            return verdict;
-        };
-        i += 1;
-    }
-    Verdict::Fine
-}
-
 // ------------------------------------------------------------ all of them
 
 // The place of refusal 8 among n words.
@@ -194,15 +127,6 @@ pub fn check_words(head: Head, words: &[u32], kinds: &[u8], nested: &[u32]) -> V
         return Verdict::Last(last_place(words.len()));
     }
     words_verdict(head, words, kinds, nested)
-}
-
-// The verdict on a function of which `check_words` found nothing: that on each word among the others. Its leaders, up to one
-// past its words, are marked by 1. As many places are lent for the marks of jump targets and skips.
-pub fn check_uses(words: &[u32], captured: &[u8], leaders: &[u8], targets: &mut [u8]) -> Verdict
-    ensures { λ r. ⌜ ((p : Proto) → p .words ≡ now (words .entry) → p .captured ≡ now (captured .entry) → checkWords p ≡ fine → Marked (leader p) (size p) (now (leaders .entry)) → size p < length (now (targets .entry)) → verdictOf r ≡ check p) ⌝ }
-{
-    mark_reached(words, targets);
-    uses_verdict(words, captured, leaders, targets)
 }
 
 // The verdict on a function. Its leaders, up to one past its words, are marked by 1, unless `check_words` finds a fault; as many

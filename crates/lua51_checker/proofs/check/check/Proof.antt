@@ -3,9 +3,9 @@ use mathlib.Core.Path.{_≡_, sym, ap, _∙_}
 use borrow.Author.Needs.{needs}
 use Rattle.lua51_deserializer.specs.Proto.{size}
 use Rattle.lua51_lifter.specs.Check.{Verdict, fine, _else_, firstRefusal, useVerdict}
-use Rattle.lua51_checker.specs.Judgement.{verdictOf, checkWords}
-use Rattle.lua51_checker.proofs.Judging.{refuses}
-use Rattle.lua51_checker.proofs.Using.{check-splits}
+use Rattle.lua51_uses.specs.Judgement.{verdictOf, checkWords}
+use Rattle.lua51_uses.proofs.FirstRefusal.{refuses}
+use Rattle.lua51_uses.proofs.Using.{check-splits}
 use Rattle.lua51_checker.proofs.check.check.Statement.{statement}
 use Rattle.lua51_checker.proofs.check.check.Tie as tie
 

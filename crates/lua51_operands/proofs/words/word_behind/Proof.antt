@@ -1,0 +1,23 @@
+-- `words::word_behind`: past the end there is 0. Assumes nothing.
+use Prim.Native.Nat.{_+_, _≤_}
+use native.Mathlib.Omega.{arith}
+use mathlib.Core.Path.{sym}
+use lib.ListN.{List·getD-eq-default, length}
+use borrow.Author.Needs.{needs}
+use Rattle.lua51_operands.proofs.words.word_behind.Statement.{statement}
+use Rattle.lua51_operands.proofs.words.word_behind.Tie as tie
+
+add-word-at : tie.Need-add-word-at
+add-word-at c = search needs
+
+word-at-requires : tie.Need-word-at-requires
+word-at-requires c κs = search needs
+
+returns : tie.Need-returns
+returns c = search needs
+
+returns-2 : tie.Need-returns-2
+returns-2 c = let a = c .before .before .args in let h : length (a .words .now) ≤ a .i + 1 = omega arith in sym (List·getD-eq-default (a .words .now) 0 h)
+
+pub word-behind-spec : {M : Type 1} → statement M
+word-behind-spec = tie.close (tie.spec add-word-at word-at-requires returns returns-2)

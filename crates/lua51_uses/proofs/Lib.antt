@@ -1,0 +1,2 @@
+pub mod FirstRefusal
+pub mod Using

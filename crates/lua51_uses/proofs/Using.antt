@@ -1,0 +1,101 @@
+-- Laws of open results and of the verdict on a word among the others, by which the code judges 12 to 14. Assumes nothing.
+use Prim.Native.Nat.{ℕ, _+_, _-_, _<_, _≤_}
+use native.Mathlib.Omega.{arith}
+use mathlib.Core.Bool.{Bool, true, false, not, _&&_, _||_}
+use mathlib.Core.Path.{_≡_, refl, sym, ap, _∙_}
+use lib.Dec.{eqb, leb}
+use borrow.Author.Tests.{lt-ltb, eqb-true, eqb-false}
+use Rattle.lua51_deserializer.proofs.Tests.{or-left, or-right, not-not}
+use Rattle.lua51_deserializer.proofs.Table.{word-beyond}
+use Rattle.cfg.proofs.Leaders.{end-leads}
+use Rattle.lua51_deserializer.specs.Word.{RETURN, CLOSURE, TESTSET, numberOf}
+use Rattle.lua51_deserializer.specs.Proto.{Proto, size, is, A, flowAt, opcode, capturesOf}
+use Rattle.cfg.specs.Graph.{leader}
+use Rattle.lua51_lifter.specs.Check.{user, opener, slot, missing-results, unused-results, allCaptures, landsInside, reached, lastFault, useVerdict, fine, wrong, Verdict, firstRefusal, wordVerdict, refuseIf, _else_, headFault, operandFault, check}
+use Rattle.lua51_lifter.proofs.Verdicts.{else-first, else-then, refused-not, first-all}
+use Rattle.lua51_uses.specs.Judgement.{checkWords}
+
+-- ------------------------------------------------------------ open results
+
+and-true : (b : Bool) → b ≡ b && true
+and-true true = refl
+and-true false = refl
+
+module _ (p : Proto) (i : ℕ) where
+  -- word 0 has no word before it
+  pub first-missing : i ≡ 0 → user p i ≡ missing-results p i
+  unfolding missing-results
+  first-missing h = rw h (and-true (user p 0))
+
+  pub later-missing : 0 < i → (user p i && not (opener p (i - 1) && not (leader p i) && leb (slot p i) (A p (i - 1)))) ≡ missing-results p i
+  unfolding missing-results
+  later-missing h = rw (lt-ltb 0 i h)
+
+-- ------------------------------------------------------------ the verdict on a word among the others
+
+-- the last word being RETURN, a range starts behind it
+pub last-leads : (p : Proto) → lastFault p ≡ false → leader p (size p) ≡ true
+unfolding lastFault
+last-leads p h =
+    end-leads p (omega (arith, eqb-false (size p) 0 (or-left (eqb (size p) 0) _ h)))
+    (eqb-true (opcode p (size p - 1)) (numberOf RETURN) (not-not _ (or-right (eqb (size p) 0) _ h)))
+
+module _ (p : Proto) (i : ℕ) where
+  -- past the last word there is nothing to judge
+  pub use-beyond : size p ≤ i → fine ≡ useVerdict p i
+  unfolding useVerdict unused-results missing-results opener user
+  use-beyond h = rw (word-beyond p i h)
+
+  module _ {results : Bool} (r : results ≡ (unused-results p i || missing-results p i)) where
+    pub results-wrong : results ≡ true → wrong 12 i ≡ useVerdict p i
+    unfolding useVerdict
+    results-wrong h = rw (sym r ∙ h)
+
+    module _ (h : results ≡ false) {captures : Bool} (s : captures ≡ (is p i CLOSURE && not (allCaptures p i (capturesOf p i)))) where
+      pub captures-wrong : captures ≡ true → wrong 13 i ≡ useVerdict p i
+      unfolding useVerdict
+      captures-wrong g = rw (sym r ∙ h, sym s ∙ g)
+
+      module _ (g : captures ≡ false) {shared : Bool} where
+        pub shared-wrong : shared ≡ true → shared ≡ (is p i TESTSET && reached p (i + 1)) → wrong 14 i ≡ useVerdict p i
+        unfolding useVerdict
+        shared-wrong f t = rw (sym r ∙ h, sym s ∙ g, sym t ∙ f)
+
+        pub use-right : shared ≡ false → shared ≡ (is p i TESTSET && reached p (i + 1)) → fine ≡ useVerdict p i
+        unfolding useVerdict
+        use-right f t = rw (sym r ∙ h, sym s ∙ g, sym t ∙ f)
+
+-- ------------------------------------------------------------ what 7 to 11 leave
+
+else-else : (u v w x : Verdict) → u else v else w else x ≡ (u else v else w) else x
+else-else fine fine w x = refl
+else-else fine (wrong n q) w x = refl
+else-else (wrong n q) v w x = refl
+
+pub check-splits : (p : Proto) → check p ≡ checkWords p else firstRefusal (useVerdict p) 0 (size p)
+unfolding check
+check-splits p =
+    else-else (refuseIf (headFault p) 7 0) (refuseIf (lastFault p) 8 (size p - 1)) (firstRefusal (wordVerdict p) 0 (size p))
+    (firstRefusal (useVerdict p) 0 (size p))
+
+module _ (p : Proto) (ok : checkWords p ≡ fine) where
+  abbrev of-words : Verdict
+  of-words = firstRefusal (wordVerdict p) 0 (size p)
+
+  behind-head : refuseIf (lastFault p) 8 (size p - 1) else of-words ≡ fine
+  behind-head = else-then (refuseIf (headFault p) 7 0) (refuseIf (lastFault p) 8 (size p - 1) else of-words) ok
+
+  pub ends-right : lastFault p ≡ false
+  ends-right = refused-not (lastFault p) 8 (size p - 1) (else-first (refuseIf (lastFault p) 8 (size p - 1)) of-words behind-head)
+
+  pub all-land : (k : ℕ) → k < size p → landsInside p k (flowAt p k) ≡ true
+  unfolding wordVerdict
+  all-land k h =
+      not-not _ (refused-not (not (landsInside p k (flowAt p k))) 10 k
+      (else-first (refuseIf (not (landsInside p k (flowAt p k))) 10 k) _
+      (else-then (refuseIf (operandFault p k) 9 k) _
+      (first-all (wordVerdict p) (size p) (else-then (refuseIf (lastFault p) 8 (size p - 1)) of-words behind-head) k h))))
+
+  -- the uses of words decide
+  pub then-uses : firstRefusal (useVerdict p) 0 (size p) ≡ check p
+  then-uses = sym (check-splits p ∙ ap (λ (v : Verdict). v else firstRefusal (useVerdict p) 0 (size p)) ok)
