@@ -29,7 +29,8 @@ use Rattle.rigamel.proofs.calls.answer_of as ao
 abbrev pub vals : Reading → List Val
 vals = LL.vals T.the-type T′.the-laws
 
-module _ {M : Type 1} (𝓤 : URA M) (H : Heap 𝓤) (A : Atoms 𝓤) (at-mem : Memory → SProp 𝓤) (run : Routine → Fun 𝓤) where
+module _ {M : Type 1} (𝓤 : URA M) (H : Heap 𝓤) (A : Atoms 𝓤) (at-mem : Memory → SProp 𝓤)
+    (run : Routine → Fun 𝓤) where
   abbrev pub ReadingOf : Contract 𝓤
   ReadingOf = tripleOf 𝓤 H A ro.signature (ro.spec 𝓤 H A at-mem run)
 
@@ -52,14 +53,17 @@ module _ {M : Type 1} (𝓤 : URA M) (H : Heap 𝓤) (A : Atoms 𝓤) (at-mem : 
   abbrev pub to-answer : Call → Val → AnswerOf .Ghost
   to-answer d u = ((tt, tt, tt, (d, tt), (u ∷ [], tt)), tt)
 
-module _ {M : Type 1} (𝓤 : URA M) (H : Heap 𝓤) (A : Atoms 𝓤) (W : Given 𝓤 H A) (at-mem : Memory → SProp 𝓤) (run : Routine → Fun 𝓤) where
+module _ {M : Type 1} (𝓤 : URA M) (H : Heap 𝓤) (A : Atoms 𝓤) (W : Given 𝓤 H A) (at-mem : Memory → SProp 𝓤)
+    (run : Routine → Fun 𝓤) where
   -- what they ask
   pub goes-reading : (d : Call) (u : Val)
       → ent 𝓤 (sem 𝓤 H A (D.the-row .own d (u ∷ []))) (ReadingOf 𝓤 H A at-mem run .pre (to-reading 𝓤 H A at-mem run d u))
   goes-reading d u =
-      qed W (‵ (D.the-row .own d (u ∷ [])) ∷ []) ∵ nothing ! $ move ! (1 ∷ 0 ∷ []) $ join ! $ nothing ! $ join ! $ frame ! $ done !
+      qed W (‵ (D.the-row .own d (u ∷ [])) ∷ []) ∵ nothing ! $ move ! (1 ∷ 0 ∷ []) $ join ! $ nothing ! $ join ! $ frame ! $
+      done !
 
   pub goes-answer : (d : Call) (u : Val)
       → ent 𝓤 (sem 𝓤 H A (D.the-row .own d (u ∷ []))) (AnswerOf 𝓤 H A at-mem run .pre (to-answer 𝓤 H A at-mem run d u))
   goes-answer d u =
-      qed W (‵ (D.the-row .own d (u ∷ [])) ∷ []) ∵ nothing ! $ move ! (1 ∷ 0 ∷ []) $ join ! $ nothing ! $ join ! $ frame ! $ done !
+      qed W (‵ (D.the-row .own d (u ∷ [])) ∷ []) ∵ nothing ! $ move ! (1 ∷ 0 ∷ []) $ join ! $ nothing ! $ join ! $ frame ! $
+      done !

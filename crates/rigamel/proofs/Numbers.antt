@@ -1,8 +1,6 @@
 -- Laws of the numbers of answers and readings. Assumes nothing.
 use Prim.Native.Nat.{ℕ}
-use mathlib.Core.Bool.{true, false}
 use mathlib.Core.Path.{_≡_, sym, _∙_, ap}
-use mathlib.Core.List.{List}
 use types.Run.{OneOf}
 use denote.Enum.Declared.{tagOf}
 use Rattle.judging.specs.Answers.{answerOf}
@@ -24,7 +22,8 @@ unfolding answerNumbers
 given-numbers a n e = rw e
 
 -- any other has its refusal's
-pub refusal-numbers : (a : code.Answer) (r : Refusal) → OneOf refusals (tagOf answer-type a) → refusalBy r ≡ refusedBy (answerOf a)
+pub refusal-numbers : (a : code.Answer) (r : Refusal) → OneOf refusals (tagOf answer-type a)
+    → refusalBy r ≡ refusedBy (answerOf a)
     → record { number = r .number; function = r .function; place = r .place; length = 0 } ≡ answerNumbers (answerOf a)
 unfolding answerNumbers
 refusal-numbers a r h q = let e = refused-by-tag a h .is in ap answerNumbers (q ∙ ap refusedBy e ∙ sym e)

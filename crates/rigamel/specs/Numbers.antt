@@ -44,5 +44,12 @@ readingNumbers held r = record { opened = cond (r .is-open) held 0; next = r .ne
 
 -- the numbers of what a call gives and leaves
 abbrev pub numbersOf : ℕ → reading.Outcome → Outcome
-numbersOf held o =
-    outcome (answerNumbers (o .answer)) (readingNumbers held (o .reading)) (o .output)
+numbersOf held o = outcome (answerNumbers (o .answer)) (readingNumbers held (o .reading)) (o .output)
+
+-- an opening: 1 stands for open
+abbrev pub opens : List ℕ → List ℕ → Outcome
+opens s out = numbersOf 1 (reading.opening s out)
+
+-- a delivery from a reading, whose own number stands for open
+abbrev pub delivers : Reading → List ℕ → List ℕ → Outcome
+delivers r s out = numbersOf (r .opened) (reading.delivery (readingOf r) s out)

@@ -7,10 +7,9 @@ use reading::open;
 ghost use mathlib.Core.Path.{_≡_};
 ghost use mathlib.Core.List.{List};
 ghost use Prim.Native.Nat.{ℕ};
-ghost use Rattle.judging.specs.Answers as answers;
-ghost use Rattle.reading.specs.Opening as opening;
-ghost use Rattle.reading.specs.Reading.{opening, delivery};
-ghost use Rattle.rigamel.specs.Numbers.{readingOf, outcome, numbersOf, answerNumbers, readingNumbers};
+ghost use Rattle.judging.specs.Answers.{answerOf};
+ghost use Rattle.reading.specs.Opening.{readingOf};
+ghost use Rattle.rigamel.specs.Numbers.{outcome, answerNumbers, readingNumbers, opens, delivers};
 
 // The number that an opening puts for open.
 const OPEN: u32 = 1;
@@ -23,7 +22,7 @@ pub struct Call {
 
 // The numbers of an answer.
 fn answer_numbers(answer: judging::Answer) -> Answer
-    ensures { λ r. ⌜ r ≡ answerNumbers (answers.answerOf answer) ⌝ }
+    ensures { λ r. ⌜ r ≡ answerNumbers (answerOf answer) ⌝ }
 {
     if let judging::Answer::Given(n) = answer {
         return Answer {
@@ -44,7 +43,7 @@ fn answer_numbers(answer: judging::Answer) -> Answer
 
 // The numbers of a reading, where `held` stands for open.
 fn reading_numbers(held: u32, reading: reading::Reading) -> Reading
-    ensures { λ r. ⌜ r ≡ readingNumbers held (opening.readingOf reading) ⌝ }
+    ensures { λ r. ⌜ r ≡ readingNumbers held (readingOf reading) ⌝ }
 {
     if reading.opened {
         return Reading {
@@ -60,7 +59,7 @@ fn reading_numbers(held: u32, reading: reading::Reading) -> Reading
 
 // Opens a chunk.
 pub fn open_value(s: &[u8]) -> Call
-    ensures { λ r. ⌜ ((out : List ℕ) → outcome (r .answer) (r .reading) out ≡ numbersOf 1 (opening (now (s .entry)) out)) ⌝ }
+    ensures { λ r. ⌜ ((out : List ℕ) → outcome (r .answer) (r .reading) out ≡ opens (now (s .entry)) out) ⌝ }
 {
     let opened = open(s);
     let answer = opened.answer;
@@ -72,7 +71,7 @@ pub fn open_value(s: &[u8]) -> Call
 
 // Delivers from a reading.
 pub fn deliver_value(s: &[u8], out: &mut [u8], reading: Reading) -> Call
-    ensures { λ r. ⌜ outcome (r .answer) (r .reading) (now (out .exit)) ≡ numbersOf (reading .opened) (delivery (readingOf reading) (now (s .entry)) (now (out .entry))) ⌝ }
+    ensures { λ r. ⌜ outcome (r .answer) (r .reading) (now (out .exit)) ≡ delivers reading (now (s .entry)) (now (out .entry)) ⌝ }
 {
     let from = reading::Reading {
         opened: 0 < reading.opened,

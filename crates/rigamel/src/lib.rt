@@ -13,18 +13,19 @@ ghost use mathlib.Core.List.{List};
 ghost use Prim.Native.Nat.{ℕ};
 ghost use Rattle.lines.specs.Out.{output, puts};
 ghost use Rattle.judging.specs.Refusal.{refusalLine};
-ghost use Rattle.reading.specs.Reading.{closed, opening, delivery};
-ghost use Rattle.rigamel.specs.Numbers.{readingOf, outcome, numbersOf, readingNumbers};
+ghost use Rattle.reading.specs.Reading.{closed};
+ghost use Rattle.rigamel.specs.Numbers.{outcome, readingNumbers, opens, delivers};
 
-// A reading, which the caller keeps: whether it is open (0 closed, any other number open), and the function whose listing comes next.
+// A reading, which the caller keeps: whether it is open (0 closed, any other number open), and the function whose listing comes
+// next.
 #[repr(C)]
 pub struct Reading {
     pub opened: u32,
     pub next: u32,
 }
 
-// An answer. Number 0 is no refusal: then `length` is the count of functions, or of a delivery the listing's length. Any other number
-// is a refusal's, with its function and place. What does not apply is 0.
+// An answer. Number 0 is no refusal: then `length` is the count of functions, or of a delivery the listing's length. Any other
+// number is a refusal's, with its function and place. What does not apply is 0.
 #[repr(C)]
 pub struct Answer {
     pub number: u64,
@@ -44,21 +45,21 @@ pub extern "C" fn rigamel_closed() -> Reading
 // Judges a chunk and opens the reading that is lent, or closes it where the chunk is refused, in both cases at function 0.
 #[no_mangle]
 pub extern "C" fn rigamel_open(s: &[u8], reading: &mut Reading) -> Answer
-    ensures { λ r. ⌜ ((out : List ℕ) → outcome r (now (reading .exit)) out ≡ numbersOf 1 (opening (now (s .entry)) out)) ⌝ }
+    ensures { λ r. ⌜ ((out : List ℕ) → outcome r (now (reading .exit)) out ≡ opens (now (s .entry)) out) ⌝ }
 {
-    let call = open_value(s);
-    *reading = reading_of(call);
-    answer_of(call)
+    let opened = open_value(s);
+    *reading = reading_of(opened);
+    answer_of(opened)
 }
 
 // Writes the listing of the next function of the reading that is lent, and moves the reading on.
 #[no_mangle]
 pub extern "C" fn rigamel_deliver(s: &[u8], out: &mut [u8], reading: &mut Reading) -> Answer
-    ensures { λ r. ⌜ outcome r (now (reading .exit)) (now (out .exit)) ≡ numbersOf (now (reading .entry) .opened) (delivery (readingOf (now (reading .entry))) (now (s .entry)) (now (out .entry))) ⌝ }
+    ensures { λ r. ⌜ outcome r (now (reading .exit)) (now (out .exit)) ≡ delivers (now (reading .entry)) (now (s .entry)) (now (out .entry)) ⌝ }
 {
-    let call = deliver_value(s, out, *reading);
-    *reading = reading_of(call);
-    answer_of(call)
+    let delivered = deliver_value(s, out, *reading);
+    *reading = reading_of(delivered);
+    answer_of(delivered)
 }
 
 // Prints the X line of a refusal from the output's start, as far as the output goes, and gives the length of the whole line.

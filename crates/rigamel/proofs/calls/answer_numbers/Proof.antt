@@ -14,7 +14,8 @@ refusal-of-requires : tie.Need-refusal-of-requires
 refusal-of-requires c κs = search needs
 
 returns-2 : tie.Need-returns-2
-returns-2 c = refusal-numbers (c .before .before .args .answer) (c .refusal-of .result) (c .before .match .keys2) (c .refusal-of .ensures)
+returns-2 c = refusal-numbers (c .before .before .args .answer) (c .refusal-of .result) (c .before .match .keys2)
+    (c .refusal-of .ensures)
 
 pub answer-numbers-spec : {M : Type 1} → statement M
 answer-numbers-spec = tie.close (tie.spec enum-known-answer returns refusal-of-requires returns-2)
