@@ -1,14 +1,16 @@
 -- The numbers of a call say all that the definition has. Assumes nothing.
-use Prim.Native.Nat.{ℕ, zero, suc, _+_, _-_, _/_, _%_, _<_, _≤_}
+use Prim.Native.Nat.{ℕ, zero, suc, _+_, _/_, _%_, _<_, _≤_}
 use native.Mathlib.Omega.{arith}
 use mathlib.Core.Bool.{Bool, true, false, cond}
-use mathlib.Core.Path.{_≡_, refl}
-use mathlib.Core.List.{List, [], _∷_, flatMap}
+use mathlib.Core.Path.{_≡_, refl, sym, _∙_, ap}
+use mathlib.Core.List.{List, [], _∷_, _++_, flatMap}
 use lib.Dec.{leb, ltb, eqb}
-use lib.ListN.{length, length-append, length-replicate}
+use lib.ListN.{length, take, drop, set, length-append, length-replicate}
+use lib.Seq.{take-length}
 use borrow.Author.Tests.{lt-ltb, ne-eqb, ltb-true, ltb-false}
 use Rattle.lines.specs.Line.{digits, digit, decimal, column, line}
-use Rattle.lines.proofs.Puts.{puts-count}
+use Rattle.lines.specs.Out.{Out, output, largest-usize, put, puts}
+use Rattle.lines.proofs.Puts.{puts-count, puts-empty}
 use Rattle.lua51_deserializer.specs.Chunk.{Read, Place, walk, protoAt}
 use Rattle.lua51_deserializer.proofs.Numbers.{Later, goes-on, later, short-later, long-refused}
 use Rattle.lua51_lifter.specs.Check.{Verdict}
@@ -156,6 +158,31 @@ line-few : (n f p : ℕ) → length (refusalLine n f p) ≤ most-line
 unfolding line flatMap
 line-few n f p = simp length-append (omega (arith, column-few n, column-few f, column-few p))
 
+puts-first : (l : List ℕ) (i b : ℕ) (bs : List ℕ) → suc i ≤ largest-usize
+    → puts (output l i) (b ∷ bs) .bytes ≡ puts (output (set l i b) (suc i)) bs .bytes
+unfolding puts put
+puts-first l i b bs h = ap (λ (n : ℕ). puts (output (set l i b) n) bs .bytes) (omega arith)
+
+-- what is put behind the first byte of an output does not touch it
+puts-behind : (x : ℕ) (l : List ℕ) (i : ℕ) (bs : List ℕ) → suc i + length bs ≤ largest-usize
+    → puts (output (x ∷ l) (suc i)) bs .bytes ≡ x ∷ puts (output l i) bs .bytes
+unfolding puts
+puts-behind x l i [] h = refl
+puts-behind x l i (b ∷ bs) h =
+    puts-first (x ∷ l) (suc i) b bs (omega arith)
+    ∙ puts-behind x (set l i b) (suc i) bs (omega arith)
+    ∙ ap (λ (r : List ℕ). x ∷ r) (sym (puts-first l i b bs (omega arith)))
+
+puts-cut : (l bs : List ℕ) → length bs ≤ largest-usize
+    → puts (output l 0) bs .bytes ≡ take (length l) (bs ++ drop (length bs) l)
+unfolding puts
+puts-cut [] bs h = ap (λ (o : Out). o .bytes) (puts-empty 0 bs (omega arith))
+puts-cut (x ∷ l) [] h = sym (take-length (x ∷ l))
+puts-cut (x ∷ l) (b ∷ bs) h =
+    puts-first (x ∷ l) 0 b bs (omega arith)
+    ∙ puts-behind b l 0 bs (omega arith)
+    ∙ ap (λ (r : List ℕ). b ∷ r) (puts-cut l bs (omega arith))
+
 pub told : Told
 unfolding opening
 told = record {
@@ -164,4 +191,5 @@ told = record {
   refused = λ r s out. refused-keeps r s out (delivery (readingOf r) s out) (ended r s out);
   line-short = line-few;
   line-counted = λ out n f p. puts-count out (refusalLine n f p) (omega (arith, line-few n f p));
+  line-cut = λ out n f p. puts-cut out (refusalLine n f p) (omega (arith, line-few n f p));
 }

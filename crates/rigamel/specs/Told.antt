@@ -1,8 +1,8 @@
 -- What the numbers of a call say: all that the definition has, and number 0 exactly where nothing is refused.
 use Prim.Native.Nat.{ℕ, _≤_}
-use mathlib.Core.List.{List}
+use mathlib.Core.List.{List, _++_}
 use mathlib.Core.Path.{_≡_}
-use lib.ListN.{length}
+use lib.ListN.{length, take, drop}
 use Rattle.lines.specs.Out.{output, puts}
 use Rattle.judging.specs.Refusal.{refusalLine}
 use Rattle.reading.specs.Reading.{opening, delivery}
@@ -24,3 +24,7 @@ pub record Told : Type 0 where
   pub line-short : (n f p : ℕ) → length (refusalLine n f p) ≤ most-line
   pub line-counted : (out : List ℕ) (n f p : ℕ)
       → puts (output out 0) (refusalLine n f p) .at ≡ length (refusalLine n f p)
+  -- it stands at the output's start, with what was behind it; in a shorter output, as far as that goes
+  pub line-cut : (out : List ℕ) (n f p : ℕ)
+      → puts (output out 0) (refusalLine n f p) .bytes
+      ≡ take (length out) (refusalLine n f p ++ drop (length (refusalLine n f p)) out)
