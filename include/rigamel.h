@@ -1,0 +1,111 @@
+/* Rigamel: flow listings of the functions of a compiled Lua 5.1 chunk.
+ *
+ * A program opens a chunk, and then has the listings of its functions delivered one after the other into a buffer of its own:
+ *
+ *     rigamel_reading reading = rigamel_closed();
+ *     rigamel_answer answer = rigamel_open(chunk, length, &reading);
+ *     while (answer.number == RIGAMEL_GIVEN) {
+ *         answer = rigamel_deliver(chunk, length, out, size, &reading);
+ *         ...                            (the first answer.length bytes of out; the loop ends with RIGAMEL_NO_FUNCTION)
+ *     }
+ *
+ * examples/c/listing.c is such a program. Link target/staticlib/librigamel.a, which `rt staticlib rigamel` writes (x86-64 Linux).
+ *
+ * What holds of every call:
+ *
+ * - It works on what is lent to it until it returns, and keeps nothing: there is no state but the reading, no allocation, nothing
+ *   to free. Calls on different memory may run at the same time.
+ * - A slice of bytes is a pointer and a length. With length 0 the pointer may be NULL, and nothing is read or written through it.
+ *   With another length it points to that many bytes. A length is at most PTRDIFF_MAX. A pointer to a reading is never NULL.
+ * - Input, output and reading may not overlap, and no one else may write them while the call runs. The input is only read.
+ * - There is an answer for every input, reading and output, whatever their length and content. A refusal is an answer.
+ * - It takes about 650 KB of stack, and no more for a larger chunk (measured, not proved).
+ *
+ * What each function below is said to do is proved of its code (crates/rigamel). The numbers of the refusals are those of the
+ * scope document.
+ */
+#ifndef RIGAMEL_H
+#define RIGAMEL_H
+
+#include <stddef.h>
+#include <stdint.h>
+
+#ifdef __cplusplus
+extern "C" {
+#endif
+
+/* A reading of a chunk. The caller keeps it, may copy it, and lends it to each call, which alters it. Any numbers may stand in it:
+ * `opened` is 0 where it is closed, and any other number where it is open; `next` is the function whose listing comes next. */
+typedef struct rigamel_reading {
+    uint32_t opened;
+    uint32_t next;
+} rigamel_reading;
+
+/* An answer. Where `number` is 0 (RIGAMEL_GIVEN) nothing is refused, and `length` is what is given; `function` and `place` are 0.
+ * Where it is not, it is the number of a refusal, with its function and place; `length` is 0. */
+typedef struct rigamel_answer {
+    uint64_t number;
+    uint64_t function;
+    uint64_t place;
+    uint64_t length;
+} rigamel_answer;
+
+/* The numbers of the refusals. A place is an offset into the chunk for 1 to 6, where the function is 0; a word of the function for 8
+ * to 14; and 0 for 7 and for 31 to 33, whose function is the reading's next one. */
+enum rigamel_number {
+    RIGAMEL_GIVEN = 0,              /* no refusal */
+    RIGAMEL_TOO_LONG = 1,           /* the chunk is over 65,536 bytes; place 0 */
+    RIGAMEL_HEADER = 2,             /* a header byte differs */
+    RIGAMEL_ENDED = 3,              /* the bytes end inside a field */
+    RIGAMEL_OUT_OF_RANGE = 4,       /* a count, size, kind, boolean or flag byte is out of range, or a string is ill-formed */
+    RIGAMEL_TOO_MANY_FUNCTIONS = 5, /* a 257th function, or one at depth 33 */
+    RIGAMEL_LEFT_OVER = 6,          /* bytes are left over */
+    RIGAMEL_HEAD = 7,               /* stack, parameters, flags, lines or names do not fit each other */
+    RIGAMEL_LAST = 8,               /* there are no words, or the last is not RETURN */
+    RIGAMEL_OPERAND = 9,            /* an unknown opcode, or an operand outside */
+    RIGAMEL_TARGET = 10,            /* a target or skip outside the words */
+    RIGAMEL_JUMP = 11,              /* a test that is not followed by a jump */
+    RIGAMEL_RESULTS = 12,           /* open results without their user, or a user without them */
+    RIGAMEL_CAPTURES = 13,          /* a closure that is not followed by its captures */
+    RIGAMEL_SHARED = 14,            /* a jump to the word behind TESTSET */
+    RIGAMEL_NOT_OPENED = 31,        /* the reading is closed */
+    RIGAMEL_NO_FUNCTION = 32,       /* the next function is not below the chunk's count: all are delivered */
+    RIGAMEL_OUTPUT_SHORT = 33       /* the output is shorter than the listing: lend a longer one */
+};
+
+/* The most bytes that rigamel_print_refusal prints, whatever the numbers. */
+#define RIGAMEL_LINE_MOST 62
+
+/* A closed reading at function 0, as every reading begins: { 0, 0 }. */
+rigamel_reading rigamel_closed(void);
+
+/* Judges the `length` bytes at `chunk`, whole.
+ *
+ * Where the chunk is accepted the answer gives its count of functions, at most 256, and *reading is open at function 0: { 1, 0 }.
+ * Where it is refused the answer is its first refusal, 1 to 14, and *reading is closed at function 0: { 0, 0 }.
+ * What stood in *reading before does not matter. */
+rigamel_answer rigamel_open(const uint8_t *chunk, size_t length, rigamel_reading *reading);
+
+/* Writes the listing of function reading->next of the chunk to the start of the output, and moves the reading on by one.
+ *
+ * The chunk is judged afresh: it need not be the one that was opened, or stand where it stood. In this order:
+ *   a closed reading           31, RIGAMEL_NOT_OPENED
+ *   a refused chunk            1 to 14
+ *   no function of the number  32, RIGAMEL_NO_FUNCTION
+ *   too short an output        33, RIGAMEL_OUTPUT_SHORT
+ * and a refused delivery leaves both numbers of *reading and every byte of the output as they were.
+ *
+ * Else the answer gives the length of the listing; that many bytes at `out` are the listing, the bytes behind them stay as they
+ * were; reading->next is one more, and reading->opened is as it was. */
+rigamel_answer rigamel_deliver(const uint8_t *chunk, size_t length, uint8_t *out, size_t size, rigamel_reading *reading);
+
+/* Prints the line of a refusal, `X` with the three numbers and a line feed, to the start of the output, and gives its length, at
+ * most RIGAMEL_LINE_MOST. Where the output is shorter than that, its `size` bytes are the beginning of the line; the bytes behind
+ * the line stay as they were. */
+uint64_t rigamel_print_refusal(uint8_t *out, size_t size, uint64_t number, uint64_t function, uint64_t place);
+
+#ifdef __cplusplus
+}
+#endif
+
+#endif
