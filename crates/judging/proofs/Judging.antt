@@ -1,13 +1,13 @@
 -- Laws by which the code judges a chunk: its functions one after the other, and each in the buffers. Assumes nothing.
-use mathlib.Core.Path.{_≡_, refl, sym, _∙_, ap}
+use mathlib.Core.Path.{_≡_, refl, sym, _∙_, ap, subst}
 use mathlib.Core.List.{List, _∷_, []}
 use Prim.Native.Nat.{ℕ, suc, _+_, _-_, _≤_, _<_}
 use native.Mathlib.Omega.{arith}
-use lib.ListN.{length}
+use lib.ListN.{length, take}
 use types.Run.{OneOf}
 use denote.Enum.Declared.{tagOf}
 use Rattle.lua51_deserializer.specs.Chunk.{here, Place, Walk, walk, protoAt, most, most-words, most-functions}
-use Rattle.lua51_function.specs.Function.{heldOf, Loads, Holds}
+use Rattle.lua51_function.specs.Function.{Stands, heldOf, Loads, Holds}
 use Rattle.lua51_deserializer.specs.Proto.{Proto, size}
 use Rattle.lua51_deserializer.specs.Walked.{placesOf, walkOf}
 use Rattle.lua51_deserializer.specs.declared.chunk.Functions.{Functions}
@@ -16,6 +16,7 @@ use Rattle.lua51_deserializer.specs.declared.fields.Cursor.the-variants.{Here}
 use Rattle.lua51_function.specs.declared.function.Loaded.{Loaded}
 use Rattle.lua51_deserializer.proofs.Cursor.{refusals, refusal as refusal-of}
 use Rattle.lua51_deserializer.proofs.Places.{places-length}
+use Rattle.lua51_function.proofs.Buffers.{filled-length}
 use Rattle.lua51_function.proofs.WholeChunk.{whole-chunk}
 use Rattle.lua51_function.proofs.WholeFunction.{holds-each}
 use Rattle.lua51_deserializer.proofs.fields.Cursor.{the-type}
@@ -51,12 +52,20 @@ module _ {s : List ℕ} {functions : Functions} (whole : Whole s functions) wher
   judge-whole = let e : functions .count - 0 ≡ functions .count = omega arith in rw (e, read-whole, count-whole)
 
 -- a function is held whole by buffers with room
-pub holds-function : {s : List ℕ} {functions : Functions} {f : ℕ} {r : Loaded} {ws ws′ ks ks′ cs cs′ ns ns′ us us′ ls ts : List ℕ} → Ready s functions f ws ks cs ns us ls ts
-    → Loads s (heldOf functions) f r ws ws′ ks ks′ cs cs′ ns ns′ us us′ → Holds s (walk s .places) f r ws′ ks′ cs′ ns′ us′
-holds-function {s} {functions} {f} {r} {ws} {ws′} {ks} {ks′} {cs} {cs′} {ns} {ns′} {us} {us′} ready loads =
-    let end = ready .whole .end in
-    holds-each s (record { cursor = Here end; functions = functions }) end f r ws ws′ ks ks′ cs cs′ ns ns′ us us′
-    (ready .whole .walk) refl (ready .below) loads (ready .lists)
+module _ {s : List ℕ} {functions : Functions} {f : ℕ} {r : Loaded} {ws ws′ ks ks′ ns ns′ us us′ ls ts : List ℕ} (ready : Ready s functions f ws ks ns us ls ts)
+    (loads : Loads s (heldOf functions) f r ws ws′ ks ks′ ns ns′ us us′) where
+  pub holds-function : Holds s (walk s .places) f r ws′ ks′ ns′ us′
+  holds-function =
+      let end = ready .whole .end in
+      holds-each s (record { cursor = Here end; functions = functions }) end f r ws ws′ ks ks′ ns ns′ us us′
+      (ready .whole .walk) refl (ready .below) loads (ready .lists)
+
+  -- the kinds of its constants too
+  pub stands-function : Stands (protoAt s (walk s .places) f) (r .head) (take (r .words) ws′) (take (r .kinds) ks′) (take (r .nested) ns′) (take (r .nested) us′)
+  stands-function =
+      let p = protoAt s (walk s .places) f in
+      let kinds : p .kinds ≡ take (r .kinds) ks′ = holds-function .kinds (omega (arith, ready .kinds, filled-length (loads .kinds))) in
+      subst (λ (l : List ℕ). Stands p (r .head) (take (r .words) ws′) l (take (r .nested) ns′) (take (r .nested) us′)) kinds (holds-function .stands)
 
 -- ------------------------------------------------------------ the walk over a chunk
 
@@ -109,10 +118,9 @@ leaders-marked p marks n below h j l = rw h (table-at (mark p) n j (omega arith)
 -- ------------------------------------------------------------ the buffers
 
 -- each buffer is as long as it was made
-pub record Buffers (ws ks cs ns us ls ts : List ℕ) : Type 0 where
+pub record Buffers (ws ks ns us ls ts : List ℕ) : Type 0 where
   pub words : most-words ≡ length ws
   pub kinds : most ≡ length ks
-  pub places : most ≡ length cs
   pub nested : most-functions ≡ length ns
   pub captured : most-functions ≡ length us
   pub leaders : most-words + 1 ≡ length ls

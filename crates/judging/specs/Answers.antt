@@ -1,9 +1,9 @@
 -- What the code's answers stand for, and what it goes by where it judges a chunk's functions.
-use Prim.Native.Nat.{ℕ, _<_}
+use Prim.Native.Nat.{ℕ, _≤_, _<_}
 use mathlib.Core.List.{List}
 use mathlib.Core.Path.{_≡_}
 use lib.ListN.{length}
-use Rattle.lua51_deserializer.specs.Chunk.{Read, here, refused, walked, walk, most-words}
+use Rattle.lua51_deserializer.specs.Chunk.{Read, here, refused, walked, walk, most, most-words}
 use Rattle.lua51_deserializer.specs.Cursor.{readOf}
 use Rattle.lua51_function.specs.Function.{Roomy}
 use Rattle.lua51_deserializer.specs.Walked.{placesOf}
@@ -36,9 +36,10 @@ pub record Whole (s : List ℕ) (functions : Functions) : Type 0 where
 
 -- function f of the chunk s can be judged: the chunk was read whole, f is one of its functions, and the buffers have room for
 -- each of them and for the marks of its words, with one behind the last
-pub record Ready (s : List ℕ) (functions : Functions) (f : ℕ) (ws ks cs ns us ls ts : List ℕ) : Type 0 where
+pub record Ready (s : List ℕ) (functions : Functions) (f : ℕ) (ws ks ns us ls ts : List ℕ) : Type 0 where
   pub whole : Whole s functions
   pub below : f < functions .count
-  pub lists : Roomy ws ks cs ns us
+  pub lists : Roomy ws ns us
+  pub kinds : most ≤ length ks
   pub leaders : most-words < length ls
   pub targets : most-words < length ts

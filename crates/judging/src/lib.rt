@@ -77,18 +77,17 @@ fn check_function(
     f: u32,
     words: &mut [u32],
     kinds: &mut [u8],
-    places: &mut [u32],
     nested: &mut [u32],
     captured: &mut [u8],
     leaders: &mut [u8],
     targets: &mut [u8],
 ) -> Verdict
-    requires { ⌜ Ready (now s) functions f (now words) (now kinds) (now places) (now nested) (now captured) (now leaders) (now targets) ⌝ }
+    requires { ⌜ Ready (now s) functions f (now words) (now kinds) (now nested) (now captured) (now leaders) (now targets) ⌝ }
     ensures { λ r. ⌜ verdictOf r ≡ check (protoAt (now (s .entry)) (walk (now (s .entry)) .places) f) ⌝ }
 {
-    let loaded = function_at(s, functions, f, words, kinds, places, nested, captured);
+    let loaded = function_at(s, functions, f, words, kinds, nested, captured);
     let n = loaded.words;
-    let constants = loaded.constants;
+    let constants = loaded.kinds;
     let inner = loaded.nested;
     let marks = n + 1;
     check_loaded(
@@ -109,7 +108,6 @@ fn judge_functions(s: &[u8], functions: Functions) -> Answer
 {
     let mut words = [0u32; MOST_WORDS];
     let mut kinds = [0u8; MOST_CONSTANTS];
-    let mut places = [0u32; MOST_CONSTANTS];
     let mut nested = [0u32; MOST_NESTED];
     let mut captured = [0u8; MOST_NESTED];
     let mut leaders = [0u8; MOST_MARKS];
@@ -123,7 +121,6 @@ fn judge_functions(s: &[u8], functions: Functions) -> Answer
             f,
             &mut words,
             &mut kinds,
-            &mut places,
             &mut nested,
             &mut captured,
             &mut leaders,

@@ -38,15 +38,15 @@ use Rattle.listing.specs.Held.{run-numbers, Accepted, Held, Numbered, Si
 -- ------------------------------------------------------------ the function
 
 -- it is one of a chunk that was read whole, and buffers with room hold all of it
-pub holds-function : {s : List ℕ} (functions : Functions) {f : ℕ} {r : Loaded} {ws ws′ ks ks′ cs cs′ ns ns′ us us′ : List ℕ}
+pub holds-function : {s : List ℕ} (functions : Functions) {f : ℕ} {r : Loaded} {ws ws′ ks ks′ ns ns′ us us′ : List ℕ}
     (end : ℕ) → walked (here end) (placesOf functions) ≡ walk s → f < functions .count
-    → Loads s (heldOf functions) f r ws ws′ ks ks′ cs cs′ ns ns′ us us′ → Roomy ws ks cs ns us
-    → Holds s (walk s .places) f r ws′ ks′ cs′ ns′ us′
-holds-function {s} functions {f} {r} {ws} {ws′} {ks} {ks′} {cs} {cs′} {ns} {ns′} {us} {us′} end e below loads room =
-    holds-each s (record { cursor = Here end; functions = functions }) end f r ws ws′ ks ks′ cs cs′ ns ns′ us us′ e refl below loads room
+    → Loads s (heldOf functions) f r ws ws′ ks ks′ ns ns′ us us′ → Roomy ws ns us
+    → Holds s (walk s .places) f r ws′ ks′ ns′ us′
+holds-function {s} functions {f} {r} {ws} {ws′} {ks} {ks′} {ns} {ns′} {us} {us′} end e below loads room =
+    holds-each s (record { cursor = Here end; functions = functions }) end f r ws ws′ ks ks′ ns ns′ us us′ e refl below loads room
 
 -- where nothing is wrong in it, it is accepted
-pub accepted : {s : List ℕ} {f : ℕ} {r : Loaded} {ws ks cs ns us : List ℕ} → Holds s (walk s .places) f r ws ks cs ns us
+pub accepted : {s : List ℕ} {f : ℕ} {r : Loaded} {ws ks ns us : List ℕ} → Holds s (walk s .places) f r ws ks ns us
     → check (protoAt s (walk s .places) f) ≡ fine → Accepted (protoAt s (walk s .places) f) (take (r .words) ws)
 accepted h ok = record { words = h .stands .words; fine = ok; few = h .limits .words }
 

@@ -7,7 +7,7 @@ ghost use Rattle.lines.specs.Out.{output, puts};
 ghost use Rattle.lua51_deserializer.specs.Proto.{Proto};
 ghost use Rattle.lua51_deserializer.specs.Chunk.{Value, here, walked, walk, protoAt, constantsAt};
 ghost use Rattle.lua51_deserializer.specs.Walked.{placesOf};
-ghost use Rattle.lua51_function.specs.Function.{Stands};
+ghost use Rattle.lua51_function.specs.Function.{Stands, placesFrom};
 ghost use Rattle.lua51_lister.specs.Constants.{AreRead};
 ghost use Rattle.lua51_lifter.specs.Check.{check, fine};
 ghost use Rattle.lua51_lifter.specs.Listing.{listing};
@@ -25,10 +25,8 @@ use lua51_lister::constants::put_constant_lines;
 use lua51_lister::constants::put_function_line;
 use lua51_lister::lift::RUN_NUMBERS;
 
-// Room for the largest function: its words, its constants, and the functions that can be nested in it.
+// Room for the largest function: its words, and the functions that can be nested in it.
 const MOST_WORDS: usize = 8192;
-
-const MOST_CONSTANTS: usize = 65536;
 
 const MOST_NESTED: usize = 256;
 
@@ -37,15 +35,17 @@ const MOST_MARKS: usize = 8193;
 
 const MOST_NUMBERS: usize = 8194;
 
-// Prints the listing of a function, by its head and its lists. The arrays of its graph are put into what is lent for them: the
-// marks of its leaders, the numbers of its blocks, the counts of entering edges and of earlier betweens, and the fronts.
+// Prints the listing of a function, by its head, where its constants start and how many they are, and its lists. The arrays of its
+// graph are put into what is lent for them: the marks of its leaders, the numbers of its blocks, the counts of entering edges and
+// of earlier betweens, and the fronts.
 fn put_loaded(
     out: &mut [u8],
     at: usize,
     s: &[u8],
     head: Head,
+    first: usize,
+    count: usize,
     words: &[u32],
-    places: &[u32],
     nested: &[u32],
     captured: &[u8],
     run: &mut [u32],
@@ -56,7 +56,7 @@ fn put_loaded(
     fronts: &mut [usize],
 ) -> usize
     ensures { λ r. ⌜ ((p : Proto) (kinds : List ℕ) (vs : List Value) → Accepted p (now (words .entry)) → Stands p head (now (words .entry)) kinds (now (nested .entry)) (now (captured .entry)) → run-numbers ≤ length (now (run .entry))
-        → Sized p (now (marks .entry)) (now (numbers .entry)) (now (counts .entry)) (now (earlier .entry)) (now (fronts .entry)) → AreRead (now (s .entry)) (now (places .entry)) vs
+        → Sized p (now (marks .entry)) (now (numbers .entry)) (now (counts .entry)) (now (earlier .entry)) (now (fronts .entry)) → AreRead (now (s .entry)) (placesFrom (now (s .entry)) first count) vs
         → output (now (out .exit)) r ≡ puts (output (now (out .entry)) at) (listing p vs)) ⌝ }
 {
     mark_leaders(words, marks);
@@ -65,7 +65,7 @@ fn put_loaded(
     count_betweens(words, counts, earlier);
     note_fronts(words, counts, fronts);
     let constants = put_function_line(out, at, head);
-    let blocks = put_constant_lines(out, constants, s, places);
+    let blocks = put_constant_lines(out, constants, s, first, count);
     put_blocks(
         out,
         blocks,
@@ -89,8 +89,7 @@ pub fn put_function(out: &mut [u8], at: usize, s: &[u8], functions: Functions, f
         → output (now (out .exit)) r ≡ puts (output (now (out .entry)) at) (listing (protoAt (now (s .entry)) (walk (now (s .entry)) .places) f) (constantsAt (now (s .entry)) (walk (now (s .entry)) .places) f))) ⌝ }
 {
     let mut words = [0u32; MOST_WORDS];
-    let mut kinds = [0u8; MOST_CONSTANTS];
-    let mut places = [0u32; MOST_CONSTANTS];
+    let mut no_kinds = [0u8; 0];
     let mut nested = [0u32; MOST_NESTED];
     let mut captured = [0u8; MOST_NESTED];
     let mut run = [0u32; RUN_NUMBERS];
@@ -104,13 +103,11 @@ pub fn put_function(out: &mut [u8], at: usize, s: &[u8], functions: Functions, f
         functions,
         f,
         &mut words,
-        &mut kinds,
-        &mut places,
+        &mut no_kinds,
         &mut nested,
         &mut captured,
     );
     let n = loaded.words;
-    let constants = loaded.constants;
     let inner = loaded.nested;
     let past = n + 1;
     put_loaded(
@@ -118,8 +115,9 @@ pub fn put_function(out: &mut [u8], at: usize, s: &[u8], functions: Functions, f
         at,
         s,
         loaded.head,
+        loaded.first,
+        loaded.constants,
         &words[..n],
-        &places[..constants],
         &nested[..inner],
         &captured[..inner],
         &mut run,

@@ -11,7 +11,7 @@ use lib.Seq.{drop-cons, drop-drop, getD-drop, take-suc, set-at, length-take-le, 
 use Rattle.lua51_deserializer.specs.Chunk.{Place, nowhere, byteAt, intAt, ints, offset, constant, valueAt, valuesAt, nestedIn, kindOf, wordsOf, constantsOf, constantsAt, protoAt}
 use Rattle.lua51_deserializer.specs.Constant.{within}
 use Rattle.lua51_deserializer.specs.Walked.{placeAt}
-use Rattle.lua51_function.specs.Function.{heldCount, heldOf, placesFrom, Filled, kindAt, short, constantPlacesOf, constantPlaces}
+use Rattle.lua51_function.specs.Function.{heldCount, heldOf, placesFrom, Filled, kindAt, constantPlaces}
 use Rattle.lua51_deserializer.specs.declared.chunk.Functions.{Functions}
 use Rattle.lua51_deserializer.proofs.Tests.{either-way}
 use Rattle.lua51_deserializer.proofs.Ends.{byte-past, byte-within, int-within, cut-off}
@@ -33,6 +33,13 @@ module _ (s : List ℕ) (i k : ℕ) where
 
 -- ------------------------------------------------------------ filling from the front
 
+-- a list whose first n are those of another is as long as it was
+front-length : (n : ℕ) (xs before : List ℕ) → n ≤ length xs → n ≤ length before → length (take n xs ++ drop n before) ≡ length before
+front-length n xs before h k = simp (length-append, length-take, length-drop) (omega arith)
+
+pub filled-length : {n : ℕ} {xs before after : List ℕ} → Filled n (length before) xs before after → length after ≡ length before
+filled-length {n} {xs} {before} h = rw (h .content) (front-length n xs before (omega arith) (omega arith))
+
 -- a buffer that held `before` holds the first n of xs in front; the rest of xs is to come
 pub record Filling (n : ℕ) (xs rest before held : List ℕ) : Type 0 where
   pub inside : n ≤ length xs
@@ -45,7 +52,7 @@ filling-none xs before = record { inside = omega arith; room = omega arith; left
 
 module _ {n : ℕ} {xs rest before held : List ℕ} (f : Filling n xs rest before held) where
   pub filling-length : length held ≡ length before
-  filling-length = rw (f .content) (simp (length-append, length-take, length-drop) (omega arith))
+  filling-length = rw (f .content) (front-length n xs before (f .inside) (f .room))
 
   -- the rest in other words
   pub filling-as : {other : List ℕ} → rest ≡ other → Filling n xs other before held
@@ -65,18 +72,26 @@ module _ {n : ℕ} {xs rest before held : List ℕ} (f : Filling n xs rest befor
       let whole : length xs ≡ n = omega (arith, length-drop n xs, ap length (f .left ∙ e)) in
       filled-count room (omega arith)
 
+-- a list from n on: its n-th element, and what follows it
+module _ (xs : List ℕ) (n : ℕ) {y : ℕ} {ys : List ℕ} (e : drop n xs ≡ y ∷ ys) where
+  pub drop-first : getD xs n 0 ≡ y
+  drop-first =
+      let z : n + 0 ≡ n = omega arith in
+      rw z at (sym (getD-drop n xs 0 0) ∙ ap (λ (l : List ℕ). getD l 0 0) e)
+
+  pub drop-next : drop (n + 1) xs ≡ ys
+  drop-next = sym (drop-drop 1 n xs) ∙ ap (drop 1) e
+
 -- one element more
 pub filling-more : {n y : ℕ} {xs ys before held : List ℕ} (v : ℕ) → Filling n xs (y ∷ ys) before held → v ≡ y → n < length before
     → Filling (n + 1) xs ys before (set held n v)
 filling-more {n} {y} {xs} {ys} {before} {held} v f e h =
     let inside : n < length xs = omega (arith, length-drop n xs, ap length (f .left)) in
-    let z : n + 0 ≡ n = omega arith in
-    let there : getD xs (n + 0) 0 ≡ y = sym (getD-drop n xs 0 0) ∙ ap (λ (l : List ℕ). getD l 0 0) (f .left) in
-    let first : v ≡ getD xs n 0 = e ∙ sym (rw z at there) in
+    let first : v ≡ getD xs n 0 = e ∙ sym (drop-first xs n (f .left)) in
     record {
       inside = omega arith;
       room = omega arith;
-      left = sym (drop-drop 1 n xs) ∙ ap (drop 1) (f .left);
+      left = drop-next xs n (f .left);
       content = rw (f .content, first, drop-cons before n 0 h, add-one n, take-suc xs n 0 inside)
           (set-at (take n xs) (getD before n 0) (drop (suc n) before) (getD xs n 0) n (length-take-le n xs (omega arith))
           ∙ sym (append-snoc (take n xs) (getD xs n 0) (drop (suc n) before)));
@@ -172,17 +187,21 @@ module _ (t : Functions) (f : ℕ) where
 
 -- ------------------------------------------------------------ a whole function
 
-module _ (s : List ℕ) (ps : List Place) (f : ℕ) {start : ℕ} (place : start ≡ getD ps f nowhere .start) where
-  pub loads-words : (n : ℕ) {ws ws′ : List ℕ} → Filled n (length ws) (ints s (wordsOf s start + 4) (intAt s (wordsOf s start))) ws ws′
-      → Filled n (length ws) (protoAt s ps f .words) ws ws′
-  unfolding protoAt
-  loads-words n h = rw place at h
+module _ (s : List ℕ) (ps : List Place) (f : ℕ) where
+  module _ {start : ℕ} (place : start ≡ getD ps f nowhere .start) where
+    pub loads-words : (n : ℕ) {ws ws′ : List ℕ} → Filled n (length ws) (ints s (wordsOf s start + 4) (intAt s (wordsOf s start))) ws ws′
+        → Filled n (length ws) (protoAt s ps f .words) ws ws′
+    unfolding protoAt
+    loads-words n h = rw place at h
 
-  pub loads-kinds : (n room : ℕ) {ks ks′ : List ℕ} → Filled n room (map (kindAt s) (constantPlacesOf s start)) ks ks′ → Filled n room (protoAt s ps f .kinds) ks ks′
+    -- the places of its constants, whose count stands at `at`: cutting places off at the end of the bytes changes nothing
+    pub loads-places : {at first n : ℕ} → at ≡ within s (constantsOf s start) → first ≡ within s (at + 4) → n ≡ intAt s at → placesFrom s first n ≡ constantPlaces s ps f
+    loads-places a b c =
+        let k = constantsOf s start in
+        rw (c, b, a, within-after s k 4, int-within s k, place)
+
+  pub loads-kinds : (n room : ℕ) {places ks ks′ : List ℕ} → places ≡ constantPlaces s ps f → Filled n room (map (kindAt s) places) ks ks′ → Filled n room (protoAt s ps f .kinds) ks ks′
   unfolding protoAt constantsAt
-  loads-kinds n room h =
+  loads-kinds n room e h =
       let k = constantsOf s (getD ps f nowhere .start) in
-      rw (values-are s (k + 4) (intAt s k), map-map kindOf (valueAt s)) (rw place at h)
-
-  pub loads-places : (n room : ℕ) {cs cs′ : List ℕ} → Filled n room (map short (constantPlacesOf s start)) cs cs′ → Filled n room (map short (constantPlaces s ps f)) cs cs′
-  loads-places n room h = rw place at h
+      rw (values-are s (k + 4) (intAt s k), map-map kindOf (valueAt s)) (rw e at h)

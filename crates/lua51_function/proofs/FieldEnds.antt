@@ -7,7 +7,7 @@ use native.Mathlib.Omega.{arith}
 use borrow.Author.Tests.{leb-true}
 use lib.Dec.{leb}
 use lib.ListN.{length, getD}
-use Rattle.lua51_deserializer.specs.Chunk.{Read, here, refused, _then_, again, byteAt, intAt, byteTo, countTo, field, limited, counted, constant, constantOf, string, head, code, bytesOf, wordsOf, most-flags, most-words, offset}
+use Rattle.lua51_deserializer.specs.Chunk.{Read, here, refused, _then_, again, byteAt, intAt, byteTo, countTo, field, limited, counted, constant, string, head, code, bytesOf, wordsOf, most-flags, most-words, offset}
 use Rattle.lua51_function.specs.Function.{placesFrom}
 
 -- a refusal is no offset
@@ -79,10 +79,6 @@ module _ (s : List ℕ) where
       (small, numbers-here (intAt s i) (i + 4) j rest)
 
   -- ------------------------------------------------------------ constants
-
-  pub constant-inside : (i j : ℕ) → constant s i ≡ here j → i < length s
-  unfolding constant
-  constant-inside i j e = omega (arith, leb-true (i + 1) (length s) (passed (leb (i + 1) (length s)) (constantOf s (byteAt s i) i) 3 i e .0))
 
   -- each of n constants was read
   pub each-here : (n i j : ℕ) → again (constant s) n i ≡ here j → (k : ℕ) → k < n → (m : ℕ) × (constant s (getD (placesFrom s i n) k 0) ≡ here m)

@@ -1,21 +1,19 @@
 -- The buffers hold each function of a chunk that is not refused, whole. Assumes nothing.
 use mathlib.Core.List.{List, [], _∷_, map}
 use mathlib.Core.Path.{_≡_, refl, sym, _∙_, ap}
-use Prim.Native.Nat.{ℕ, zero, suc, _+_, _≤_, _<_, _^_, min}
-use native.Mathlib.Nat.{mod-eq-of-lt}
+use Prim.Native.Nat.{ℕ, zero, suc, _+_, _≤_, _<_, min}
 use native.Mathlib.Omega.{arith}
 use lib.ListN.{length, getD, take, drop, length-map}
-use lib.Seq.{take-at, take-length, getD-take}
-use Rattle.lua51_deserializer.specs.Chunk.{here, Place, Walk, nowhere, walk, constant, valueAt, intAt, constantsAt, constantsOf, Nil, protoAt, most-bytes}
+use lib.Seq.{take-at, take-length}
+use Rattle.lua51_deserializer.specs.Chunk.{here, Place, Walk, nowhere, walk, valueAt, intAt, constantsAt, constantsOf, Nil, protoAt}
 use Rattle.lua51_deserializer.specs.Walked.{placesOf, walkOf}
-use Rattle.lua51_function.specs.Function.{heldCount, heldOf, short, constantPlaces, Filled, Loads, WasRead, InLimits, Roomy, Holds, HoldsEach}
+use Rattle.lua51_function.specs.Function.{heldCount, heldOf, constantPlaces, Filled, Loads, WasRead, InLimits, Roomy, Holds, HoldsEach}
 use Rattle.lua51_deserializer.specs.declared.chunk.Walked.{Walked}
 use Rattle.lua51_deserializer.specs.declared.fields.Cursor.the-variants.{Here}
 use Rattle.lua51_function.specs.declared.function.Head.{Head}
 use Rattle.lua51_function.specs.declared.function.Loaded.{Loaded}
 use Rattle.lua51_deserializer.proofs.Places.{places-length}
-use Rattle.lua51_function.proofs.Buffers.{values-are}
-use Rattle.lua51_function.proofs.FieldEnds.{constant-inside}
+use Rattle.lua51_function.proofs.Buffers.{filled-length, values-are}
 use Rattle.lua51_function.proofs.WholeChunk.{whole-chunk}
 
 -- a list that there was room for
@@ -48,29 +46,17 @@ module _ (s : List ℕ) (ps : List Place) (f : ℕ) where
   unfolding constantsAt
   constants-are = let k = constantsOf s (getD ps f nowhere .start) in values-are s (k + 4) (intAt s k)
 
-  kinds-count : length (protoAt s ps f .kinds) ≡ length (constantPlaces s ps f)
-  unfolding protoAt
-  kinds-count = simp length-map (rw constants-are (simp length-map))
+  pub constants-count : length (constantsAt s ps f) ≡ length (constantPlaces s ps f)
+  constants-count = rw constants-are (simp length-map)
 
-module _ (s : List ℕ) (ps : List Place) (f : ℕ) (r : Loaded) (ws ws′ ks ks′ cs cs′ ns ns′ us us′ : List ℕ) where
-  holds : length s ≤ most-bytes → WasRead s (getD ps f nowhere) → InLimits (protoAt s ps f) → Roomy ws ks cs ns us
-      → Loads s ps f r ws ws′ ks ks′ cs cs′ ns ns′ us us′ → Holds s ps f r ws′ ks′ cs′ ns′ us′
-  holds bytes read limits room l =
+module _ (s : List ℕ) (ps : List Place) (f : ℕ) (r : Loaded) (ws ws′ ks ks′ ns ns′ us us′ : List ℕ) where
+  holds : WasRead s (getD ps f nowhere) → InLimits (protoAt s ps f) → Roomy ws ns us
+      → Loads s ps f r ws ws′ ks ks′ ns ns′ us us′ → Holds s ps f r ws′ ks′ ns′ us′
+  holds read limits room l =
       let p = protoAt s ps f in
-      let places = constantPlaces s ps f in
       let words : length (p .words) ≤ length ws = omega arith in
-      let kinds : length (p .kinds) ≤ min (length ks) (length cs) = omega arith in
-      let shorts : length (map short places) ≤ min (length ks) (length cs) = simp length-map (omega (arith, kinds-count s ps f)) in
       let nested : length (p .nested) ≤ min (length ns) (length us) = omega arith in
       let captured : length (p .captured) ≤ min (length ns) (length us) = omega arith in
-      let count : length (p .kinds) ≡ r .constants = whole-count (l .kinds) kinds in
-      let inside : (i : ℕ) → i < r .constants → i < length places = λ i h. omega (arith, kinds-count s ps f) in
-      let place : (i : ℕ) → i < r .constants → getD cs′ i 0 ≡ getD places i 0 = λ i h.
-      let (j, constant) = read .constant i (inside i h) in
-      let small : getD places i 0 < 2 ^ 32 = omega (arith, constant-inside s (getD places i 0) j constant) in
-      sym (getD-take (r .constants) cs′ i 0 h)
-      ∙ (ap (λ (l : List ℕ). getD l i 0) (sym (whole-content (l .places) shorts))
-      ∙ (map-at short places i 0 (inside i h) ∙ mod-eq-of-lt small)) in
       record {
         stands = record {
           number = ap (λ (h : Head). h .number) (sym (l .head));
@@ -81,22 +67,23 @@ module _ (s : List ℕ) (ps : List Place) (f : ℕ) (r : Loaded) (ws ws′ ks ks
           lines = ap (λ (h : Head). h .lines) (sym (l .head));
           names = ap (λ (h : Head). h .names) (sym (l .head));
           words = whole-content (l .words) words;
-          kinds = whole-content (l .kinds) kinds;
+          kinds = refl;
           nested = whole-content (l .nested) nested;
           captured = whole-content (l .captured) captured;
         };
+        kinds = λ h. whole-content (l .kinds) (omega (arith, filled-length (l .kinds)));
         words = whole-count (l .words) words;
-        constants = count;
         nested = whole-count (l .nested) nested;
         limits = limits;
-        constant = λ i h. rw (place i h) (read .constant i (inside i h));
-        value = λ i h. rw (place i h, constants-are s ps f) (sym (map-at (valueAt s) places i Nil (inside i h)));
+        places = l .places;
+        constant = read .constant;
+        value = λ i h. rw (constants-are s ps f) (sym (map-at (valueAt s) (constantPlaces s ps f) i Nil h));
       }
 
 pub holds-each : HoldsEach
-holds-each s w at f r ws ws′ ks ks′ cs cs′ ns ns′ us us′ walked here-at below loads room =
+holds-each s w at f r ws ws′ ks ks′ ns ns′ us us′ walked here-at below loads room =
     let read : walk s .read ≡ here at = sym (ap (λ (v : Walk). v .read) walked) ∙ rw here-at in
     let whole = whole-chunk s at read in
     let inside : f < length (walk s .places) = omega (arith, places-length (w .functions), ap (λ (v : Walk). length (v .places)) walked) in
-    holds s (walk s .places) f r ws ws′ ks ks′ cs cs′ ns ns′ us us′ (whole .bytes) (whole .read f inside) (whole .limited f inside) room
+    holds s (walk s .places) f r ws ws′ ks ks′ ns ns′ us us′ (whole .read f inside) (whole .limited f inside) room
     (rw (held-all s w at walked here-at) at loads)

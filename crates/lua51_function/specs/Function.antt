@@ -1,7 +1,7 @@
 -- The function that the code holds as a head and lists of numbers, and what the buffers hold once it is read.
-use mathlib.Core.List.{List, [], _∷_, _++_, map}
+use mathlib.Core.List.{List, [], _∷_, _++_}
 use mathlib.Core.Path.{_≡_}
-use Prim.Native.Nat.{ℕ, zero, suc, _+_, _%_, _^_, _≤_, _<_, min}
+use Prim.Native.Nat.{ℕ, zero, suc, _+_, _≤_, _<_, min}
 use lib.ListN.{getD, length, take, drop}
 use Rattle.lua51_deserializer.specs.Proto.{Proto}
 use Rattle.lua51_deserializer.specs.Chunk.{here, _then_, byteAt, intAt, offset, constant, head, code, constants, lines, locals, names, Place, nowhere, walk, kindOf, valueAt, bytesOf, wordsOf, constantsOf, nestedIn, protoAt, most, most-bytes, most-flags, most-functions, most-words, constantsAt, Nil}
@@ -71,10 +71,6 @@ constantPlaces s ps f = constantPlacesOf s (getD ps f nowhere .start)
 abbrev pub kindAt : List ℕ → ℕ → ℕ
 kindAt s i = kindOf (valueAt s i)
 
--- a place in 32 bits: they hold every place of a chunk of at most 65,536 bytes
-abbrev pub short : ℕ → ℕ
-short i = i % 2 ^ 32
-
 -- ------------------------------------------------------------ buffers
 
 -- a buffer held `before` and then `after`: xs, as far as there is room, n of them; and behind them what stood there. So n is a
@@ -97,13 +93,14 @@ headOf p = record {
   names = p .names;
 }
 
--- Function f of the chunk s, among those at ps, is loaded: its head, and in the buffers its words, the kinds and the places
--- of its constants, the numbers of the functions nested in it and their counts of upvalues. Each buffer as it was and as it is.
-pub record Loads (s : List ℕ) (ps : List Place) (f : ℕ) (r : Loaded) (ws ws′ ks ks′ cs cs′ ns ns′ us us′ : List ℕ) : Type 0 where
+-- Function f of the chunk s, among those at ps, is loaded: its head, the places of its constants by the first and their count,
+-- and in the buffers its words, the kinds of its constants, the numbers of the functions nested in it and their counts of
+-- upvalues. Each buffer as it was and as it is.
+pub record Loads (s : List ℕ) (ps : List Place) (f : ℕ) (r : Loaded) (ws ws′ ks ks′ ns ns′ us us′ : List ℕ) : Type 0 where
   pub head : r .head ≡ headOf (protoAt s ps f)
+  pub places : placesFrom s (r .first) (r .constants) ≡ constantPlaces s ps f
   pub words : Filled (r .words) (length ws) (protoAt s ps f .words) ws ws′
-  pub kinds : Filled (r .constants) (min (length ks) (length cs)) (protoAt s ps f .kinds) ks ks′
-  pub places : Filled (r .constants) (min (length ks) (length cs)) (map short (constantPlaces s ps f)) cs cs′
+  pub kinds : Filled (r .kinds) (length ks) (protoAt s ps f .kinds) ks ks′
   pub nested : Filled (r .nested) (min (length ns) (length us)) (protoAt s ps f .nested) ns ns′
   pub captured : Filled (r .nested) (min (length ns) (length us)) (protoAt s ps f .captured) us us′
 
@@ -139,24 +136,24 @@ pub record WholeChunk (s : List ℕ) : Type 0 where
 
 -- ------------------------------------------------------------ a function that is held whole
 
--- the buffers have room for every function of a chunk
-pub record Roomy (ws ks cs ns us : List ℕ) : Type 0 where
+-- the buffers have room for the words and the nested functions of every function of a chunk; whoever needs the kinds of its
+-- constants lends room for the most beside them
+pub record Roomy (ws ns us : List ℕ) : Type 0 where
   pub words : most-words ≤ length ws
-  pub kinds : most ≤ length ks
-  pub places : most ≤ length cs
   pub nested : most-functions ≤ length ns
   pub captured : most-functions ≤ length us
 
--- the buffers hold all of function f, as many of each list as r says; and at the place of each constant one was read, whose
--- value is the function's
-pub record Holds (s : List ℕ) (ps : List Place) (f : ℕ) (r : Loaded) (ws ks cs ns us : List ℕ) : Type 0 where
-  pub stands : Stands (protoAt s ps f) (r .head) (take (r .words) ws) (take (r .constants) ks) (take (r .nested) ns) (take (r .nested) us)
+-- the buffers hold all of function f, as many of each list as r says, and its kinds where there was room for the most; from the
+-- place of its first constant on, each was read, and its value is the function's
+pub record Holds (s : List ℕ) (ps : List Place) (f : ℕ) (r : Loaded) (ws ks ns us : List ℕ) : Type 0 where
+  pub stands : Stands (protoAt s ps f) (r .head) (take (r .words) ws) (protoAt s ps f .kinds) (take (r .nested) ns) (take (r .nested) us)
+  pub kinds : most ≤ length ks → protoAt s ps f .kinds ≡ take (r .kinds) ks
   pub words : length (protoAt s ps f .words) ≡ r .words
-  pub constants : length (protoAt s ps f .kinds) ≡ r .constants
   pub nested : length (protoAt s ps f .nested) ≡ r .nested
   pub limits : InLimits (protoAt s ps f)
-  pub constant : (i : ℕ) → i < r .constants → (j : ℕ) × (constant s (getD cs i 0) ≡ here j)
-  pub value : (i : ℕ) → i < r .constants → valueAt s (getD cs i 0) ≡ getD (constantsAt s ps f) i Nil
+  pub places : placesFrom s (r .first) (r .constants) ≡ constantPlaces s ps f
+  pub constant : (i : ℕ) → i < length (constantPlaces s ps f) → (j : ℕ) × (constant s (getD (constantPlaces s ps f) i 0) ≡ here j)
+  pub value : (i : ℕ) → i < length (constantPlaces s ps f) → valueAt s (getD (constantPlaces s ps f) i 0) ≡ getD (constantsAt s ps f) i Nil
 
 -- a chunk that is not refused is whole
 abbrev pub Unrefused : Type 0
@@ -165,7 +162,7 @@ Unrefused = (s : List ℕ) (j : ℕ) → walk s .read ≡ here j → WholeChunk 
 -- where a chunk was walked and is not refused, each of its functions that is loaded into buffers with room is held whole
 abbrev pub HoldsEach : Type 0
 HoldsEach =
-    (s : List ℕ) (w : Walked) (at f : ℕ) (r : Loaded) (ws ws′ ks ks′ cs cs′ ns ns′ us us′ : List ℕ)
+    (s : List ℕ) (w : Walked) (at f : ℕ) (r : Loaded) (ws ws′ ks ks′ ns ns′ us us′ : List ℕ)
     → walkOf w ≡ walk s → w .cursor ≡ Here at → f < w .functions .count
-    → Loads s (heldOf (w .functions)) f r ws ws′ ks ks′ cs cs′ ns ns′ us us′ → Roomy ws ks cs ns us
-    → Holds s (walk s .places) f r ws′ ks′ cs′ ns′ us′
+    → Loads s (heldOf (w .functions)) f r ws ws′ ks ks′ ns ns′ us us′ → Roomy ws ns us
+    → Holds s (walk s .places) f r ws′ ks′ ns′ us′

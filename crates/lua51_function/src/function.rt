@@ -17,12 +17,12 @@ use lua51_deserializer::fields::string;
 use lua51_deserializer::value::place_after;
 ghost use mathlib.Core.Path.{_≡_};
 ghost use mathlib.Core.List.{map};
-ghost use Prim.Native.Nat.{_+_, _≤_, _<_, min};
+ghost use Prim.Native.Nat.{_+_, min};
 ghost use lib.ListN.{getD, length};
 ghost use Rattle.lua51_deserializer.specs.Chunk.{offset, intAt, ints, nowhere, bytesOf, wordsOf, constantsOf, nestedIn, protoAt};
 ghost use Rattle.lua51_deserializer.specs.Constant.{within};
 ghost use Rattle.lua51_deserializer.specs.Cursor.{readOf};
-ghost use Rattle.lua51_function.specs.Function.{heldCount, heldOf, numberIn, upvaluesIn, NextNested, constantPlacesOf, kindAt, short, Filled, headOf, Loads};
+ghost use Rattle.lua51_function.specs.Function.{heldCount, heldOf, numberIn, upvaluesIn, NextNested, placesFrom, kindAt, Filled, headOf, Loads};
 
 // What a function's refusals, listing and graph need beside its lists.
 pub struct Head {
@@ -37,11 +37,14 @@ pub struct Head {
     pub names: u32,
 }
 
-// A function's head, and how many of its words, constants and nested functions the buffers hold.
+// A function's head; where its first constant stands, and how many constants it has; and how many of its words, of its
+// constants' kinds and of its nested functions the buffers hold.
 pub struct Loaded {
     pub head: Head,
-    pub words: usize,
+    pub first: usize,
     pub constants: usize,
+    pub words: usize,
+    pub kinds: usize,
     pub nested: usize,
 }
 
@@ -56,9 +59,6 @@ const FLAGS: usize = 2;
 
 const STACK: usize = 3;
 
-// How many places 32 bits can hold.
-const SHORT_PLACES: usize = 1 << 32;
-
 // The smaller of two numbers.
 fn least(a: usize, b: usize) -> usize
     ensures { λ r. ⌜ r ≡ min a b ⌝ }
@@ -70,7 +70,7 @@ fn least(a: usize, b: usize) -> usize
 }
 
 // The offset that a cursor stands at; 0 where it is a refusal.
-fn offset_of(c: Cursor) -> usize
+pub fn offset_of(c: Cursor) -> usize
     ensures { λ r. ⌜ r ≡ offset (readOf c) ⌝ }
 {
     let Cursor::Here(at) = c else {
@@ -179,19 +179,15 @@ fn kind_at(s: &[u8], at: usize) -> u8
     KIND_STRING
 }
 
-// The kinds and the places of the constants of the function that starts at `start`; gives how many there was room for.
-fn fill_constants(s: &[u8], start: usize, kinds: &mut [u8], places: &mut [u32]) -> usize
-    ensures kinds { λ r. ⌜ Filled r (min (length (now (kinds .entry))) (length (now (places .entry)))) (map (kindAt (now (s .entry))) (constantPlacesOf (now (s .entry)) start)) (now (kinds .entry)) (now (kinds .exit)) ⌝ }
-    ensures places { λ r. ⌜ Filled r (min (length (now (kinds .entry))) (length (now (places .entry)))) (map short (constantPlacesOf (now (s .entry)) start)) (now (places .entry)) (now (places .exit)) ⌝ }
+// The kinds of the constants from the place `first` on, `count` of them; gives how many there was room for.
+fn fill_kinds(s: &[u8], first: usize, count: usize, kinds: &mut [u8]) -> usize
+    ensures { λ r. ⌜ Filled r (length (now (kinds .entry))) (map (kindAt (now (s .entry))) (placesFrom (now (s .entry)) first count)) (now (kinds .entry)) (now (kinds .exit)) ⌝ }
 {
-    let count_at = constants_of(s, start);
-    let room = least(kinds.len(), places.len());
-    let n = least(int_at(s, count_at) as usize, room);
-    let mut at = place_after(s, count_at, INT_SIZE);
+    let n = least(count, kinds.len());
+    let mut at = first;
     let mut i: usize = 0;
     while i < n {
         kinds[i] = kind_at(s, at);
-        places[i] = (at % SHORT_PLACES) as u32;
         at = offset_of(constant(s, Cursor::Here(at)));
         i += 1;
     }
@@ -241,26 +237,31 @@ fn fill_nested(
     n
 }
 
-// Function f of a chunk that was walked: its head, and in the buffers its words, the kinds and the places of its constants,
-// the numbers of the functions nested in it and their counts of upvalues, each list as far as there is room.
+// Function f of a chunk that was walked: its head, where its constants start and how many they are; and in the buffers its words,
+// the kinds of its constants, the numbers of the functions nested in it and their counts of upvalues, each list as far as there is
+// room. Who needs no kinds lends an empty buffer for them.
 pub fn function_at(
     s: &[u8],
     functions: Functions,
     f: u32,
     words: &mut [u32],
     kinds: &mut [u8],
-    places: &mut [u32],
     nested: &mut [u32],
     captured: &mut [u8],
 ) -> Loaded
-    ensures { λ r. ⌜ Loads (now (s .entry)) (heldOf functions) f r (now (words .entry)) (now (words .exit)) (now (kinds .entry)) (now (kinds .exit)) (now (places .entry)) (now (places .exit)) (now (nested .entry)) (now (nested .exit)) (now (captured .entry)) (now (captured .exit)) ⌝ }
+    ensures { λ r. ⌜ Loads (now (s .entry)) (heldOf functions) f r (now (words .entry)) (now (words .exit)) (now (kinds .entry)) (now (kinds .exit)) (now (nested .entry)) (now (nested .exit)) (now (captured .entry)) (now (captured .exit)) ⌝ }
 {
     let start = start_of(functions, f as usize);
     let head = head_at(s, functions, f);
+    let count_at = constants_of(s, start);
+    let first = place_after(s, count_at, INT_SIZE);
+    let constants = int_at(s, count_at) as usize;
     Loaded {
         head,
+        first,
+        constants,
         words: fill_words(s, start, words),
-        constants: fill_constants(s, start, kinds, places),
+        kinds: fill_kinds(s, first, constants, kinds),
         nested: fill_nested(s, functions, f, nested, captured),
     }
 }

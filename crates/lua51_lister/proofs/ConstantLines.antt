@@ -9,7 +9,7 @@ use native.Mathlib.Omega.{arith}
 use lib.Dec.{ltb, eqb}
 use lib.Ieee.{binary64, nanBits}
 use lib.ListN.{length, getD, take, drop, length-take, length-drop, length-map, drop-of-length-le}
-use lib.Seq.{drop-cons, take-all, getD-take}
+use lib.Seq.{drop-cons, take-all}
 use borrow.Author.Tests.{ltb-true, ltb-false}
 use Rattle.lines.specs.Line.{line, line-feed, column, letter-F, letter-K}
 use Rattle.lines.specs.Out.{Out, puts}
@@ -19,15 +19,16 @@ use Rattle.lua51_deserializer.specs.Chunk.{Value, Place, Text, kindOf, kind-nil
 use Rattle.lua51_deserializer.specs.Chunk.{byteAt, intAt, valueAt, constantsAt, protoAt}
 use Rattle.lua51_deserializer.specs.Chunk as chunk
 use Rattle.lua51_deserializer.specs.Constant.{within, patternAt, numberOf, valueOf, constantAt, Reads}
-use Rattle.lua51_function.specs.Function.{short, Stands, Holds}
+use Rattle.lua51_function.specs.Function.{placesFrom, constantPlaces, Stands, Holds}
 use Rattle.lua51_function.specs.declared.function.Head.{Head}
 use Rattle.lua51_function.specs.declared.function.Loaded.{Loaded}
 use Rattle.lua51_deserializer.specs.declared.value.Constant.{Constant}
 use Rattle.lua51_deserializer.specs.declared.value.Constant.the-variants.{Nil, Boolean, String}
 use Rattle.lua51_deserializer.proofs.Ends.{drop-within}
 use Rattle.lua51_deserializer.proofs.Tests.{either-way}
+use Rattle.lua51_function.proofs.WholeFunction.{constants-count}
 use Rattle.lua51_lifter.specs.Listing.{value, constantLines}
-use Rattle.lua51_lister.specs.Constants.{functionLine, numbersOf, constantLine, sizeOf, readAt, placeLines}
+use Rattle.lua51_lister.specs.Constants.{functionLine, numbersOf, constantLine, sizeOf, readAt, short, placeLines}
 use Rattle.lua51_lister.specs.Constants.{PrintsConstant, AreRead}
 
 -- ------------------------------------------------------------ number by number
@@ -210,22 +211,13 @@ pub function-line : {p : Proto} {h : Head} {ws ks ns us : List ℕ} → Stands p
 unfolding functionLine
 function-line st = λ i. line letter-F (st .number i ∷ st .parameters i ∷ st .upvalues i ∷ st .stack i ∷ [])
 
--- at the places that the buffer holds its constants were read
-pub held-constants : {s : List ℕ} {ps : List Place} {f : ℕ} {r : Loaded} {ws ks cs ns us : List ℕ}
-    → Holds s ps f r ws ks cs ns us → r .constants ≤ length cs
-    → AreRead s (take (r .constants) cs) (constantsAt s ps f)
+-- at the places of its constants they were read
+pub held-constants : {s : List ℕ} {ps : List Place} {f : ℕ} {r : Loaded} {ws ks ns us : List ℕ} → Holds s ps f r ws ks ns us
+    → AreRead s (placesFrom s (r .first) (r .constants)) (constantsAt s ps f)
 unfolding protoAt
-held-constants {s} {ps} {f} {r} {ws} {ks} {cs} h inside =
-    let count : length (take (r .constants) cs) ≡ r .constants = omega (arith, length-take (r .constants) cs) in
+held-constants {s} {ps} {f} h =
+    let places = constantPlaces s ps f in
+    let count : length (constantsAt s ps f) ≡ length places = constants-count s ps f in
     let kinds : length (constantsAt s ps f) ≡ length (protoAt s ps f .kinds) =
     sym (length-map (constantsAt s ps f) kindOf) in
-    record {
-      few = omega arith;
-      count = omega arith;
-      constant = λ i l.
-          let below : i < r .constants = omega arith in
-          rw (getD-take (r .constants) cs i 0 below) (h .constant i below);
-      value = λ i l.
-          let below : i < r .constants = omega arith in
-          rw (getD-take (r .constants) cs i 0 below) (h .value i below);
-    }
+    rw (h .places) (record { few = omega arith; count = count; constant = h .constant; value = h .value })

@@ -1,5 +1,5 @@
 -- The F and K lines by what the code holds: a function's head, and the places of its constants in the chunk.
-use Prim.Native.Nat.{ℕ, _+_, _≤_, _<_}
+use Prim.Native.Nat.{ℕ, _+_, _%_, _^_, _≤_, _<_}
 use mathlib.Core.List.{List, [], _∷_, _++_}
 use mathlib.Core.Path.{_≡_}
 use lib.ListN.{length, getD}
@@ -8,7 +8,6 @@ use Rattle.lines.specs.Out.{Out, puts}
 use Rattle.lua51_deserializer.specs.Chunk.{Value, kindOf, here, constant, valueAt, most}
 use Rattle.lua51_deserializer.specs.Chunk as chunk
 use Rattle.lua51_deserializer.specs.Constant.{valueOf, constantAt}
-use Rattle.lua51_function.specs.Function.{short}
 use Rattle.lua51_function.specs.declared.function.Head.{Head}
 use Rattle.lua51_deserializer.specs.declared.value.Constant.{Constant}
 use Rattle.lua51_deserializer.specs.declared.value.Constant.the-variants.{Nil, Boolean, Number, NotANumber, String}
@@ -38,7 +37,11 @@ sizeOf (String at len) = len
 abbrev pub readAt : List ℕ → ℕ → Value
 readAt s place = valueOf s (constantAt s place)
 
--- the K lines of what is read at each place; i is the index of the first, and an index has 32 bits
+-- an index in 32 bits: they hold that of every constant of a function within the limits
+abbrev pub short : ℕ → ℕ
+short i = i % 2 ^ 32
+
+-- the K lines of what is read at each place; i is the index of the first
 unfoldable pub placeLines : List ℕ → ℕ → List ℕ → List ℕ
 placeLines s i [] = []
 placeLines s i (p ∷ ps) = constantLine (short i) (readAt s p) ++ placeLines s (i + 1) ps

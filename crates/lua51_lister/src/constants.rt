@@ -8,22 +8,26 @@ ghost use Rattle.lines.specs.Line.{column};
 ghost use Rattle.lines.specs.Out.{output, puts};
 ghost use Rattle.lua51_deserializer.specs.Chunk.{Boolean, Number, Text};
 ghost use Rattle.lua51_deserializer.specs.Constant.{valueOf};
+ghost use Rattle.lua51_function.specs.Function.{placesFrom};
 ghost use Rattle.lua51_lister.specs.Constants.{functionLine, numbersOf, sizeOf, PrintsConstant, PrintsConstants};
 use lines::put_end;
 use lines::put_letter;
 use lines::put_line;
 use lines::put_number;
 use lines::put_numbers;
+use lua51_deserializer::fields::Cursor;
 use lua51_deserializer::fields::KIND_BOOLEAN;
 use lua51_deserializer::fields::KIND_NIL;
 use lua51_deserializer::fields::KIND_NUMBER;
 use lua51_deserializer::fields::KIND_STRING;
+use lua51_deserializer::fields::constant;
 use lua51_deserializer::value::Constant;
 use lua51_deserializer::value::constant_at;
 use lua51_deserializer::value::pattern_of;
 use lua51_deserializer::value::pieces_of;
 use lua51_deserializer::value::place_after;
 use lua51_function::function::Head;
+use lua51_function::function::offset_of;
 
 const LETTER_F: u8 = b'F';
 
@@ -140,14 +144,17 @@ pub fn put_constant_line(out: &mut [u8], at: usize, s: &[u8], index: u32, place:
     put_end(out, end)
 }
 
-// Prints the K lines of the constants at these places of the chunk, indexes from 0 on.
-pub fn put_constant_lines(out: &mut [u8], at: usize, s: &[u8], places: &[u32]) -> usize
-    ensures { λ r. ⌜ PrintsConstants (now (s .entry)) (now (places .entry)) (output (now (out .entry)) at) (output (now (out .exit)) r) ⌝ }
+// Prints the K lines of the constants from the place `first` on, `count` of them, indexes from 0 on. Each stands where the one
+// before it ends.
+pub fn put_constant_lines(out: &mut [u8], at: usize, s: &[u8], first: usize, count: usize) -> usize
+    ensures { λ r. ⌜ PrintsConstants (now (s .entry)) (placesFrom (now (s .entry)) first count) (output (now (out .entry)) at) (output (now (out .exit)) r) ⌝ }
 {
     let mut next = at;
+    let mut place = first;
     let mut i: usize = 0;
-    while i < places.len() {
-        next = put_constant_line(out, next, s, (i % SHORT_INDEXES) as u32, places[i] as usize);
+    while i < count {
+        next = put_constant_line(out, next, s, (i % SHORT_INDEXES) as u32, place);
+        place = offset_of(constant(s, Cursor::Here(place)));
         i += 1;
     }
     next

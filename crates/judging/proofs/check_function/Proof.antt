@@ -4,7 +4,7 @@ use mathlib.Core.Path.{sym}
 use native.Mathlib.Omega.{arith}
 use lib.Seq.{length-take-le}
 use Rattle.lua51_deserializer.specs.Chunk.{most-words}
-use Rattle.judging.proofs.Judging.{holds-function}
+use Rattle.judging.proofs.Judging.{holds-function, stands-function}
 use borrow.Author.Needs.{needs}
 use Rattle.judging.proofs.check_function.Statement.{statement}
 use Rattle.judging.proofs.check_function.Tie as tie
@@ -16,7 +16,7 @@ use Rattle.judging.proofs.check_loaded.Reads as check-loaded-reads
 -- no function has more words than the buffers hold
 few-words : (d : lts.After-function-at (function-at-reads.Asked, function-at-reads.Learnt, check-loaded-reads.Asked, check-loaded-reads.Learnt) reads.Pre reads.Post) → d .function-at .result .words ≤ most-words
 few-words d =
-    let a = d .before .before .before .before .before .before .before .before .before .before .before .before .before .before in
+    let a = d .before .before .before .before .before .before .before .before .before .before .before .before in
     let h = holds-function (a .pre) (d .function-at .ensures) in
     omega arith
 
@@ -24,7 +24,7 @@ function-at-requires : tie.Need-function-at-requires
 function-at-requires c κs = search needs
 
 add-marks : tie.Need-add-marks
-add-marks c = omega (arith, few-words (c .before .before .before .before .before .before .before .before .before .before))
+add-marks c = omega (arith, few-words (c .before .before .before .before .before .before .before .before))
 
 slice-reshare-prefix-check-loaded : tie.Need-slice-reshare-prefix-check-loaded
 slice-reshare-prefix-check-loaded c = search needs
@@ -51,13 +51,13 @@ slice-aggregate-check-loaded-4 : tie.Need-slice-aggregate-check-loaded-4
 slice-aggregate-check-loaded-4 c = search needs
 
 slice-relend-prefix-check-loaded : tie.Need-slice-relend-prefix-check-loaded
-slice-relend-prefix-check-loaded c = omega (arith, few-words (c .before .before .before .before .before .before .before .before .before .before .before .before .before .before), c .before .before .before .before .before .before .before .before .before .before .before .before .before .before .before .before .before .before .before .before .before .before .before .before .before .before .before .before .pre .leaders)
+slice-relend-prefix-check-loaded c = omega (arith, few-words (c .before .before .before .before .before .before .before .before .before .before .before .before), c .before .before .before .before .before .before .before .before .before .before .before .before .before .before .before .before .before .before .before .before .before .before .before .before .pre .leaders)
 
 slice-aggregate-check-loaded-5 : tie.Need-slice-aggregate-check-loaded-5
 slice-aggregate-check-loaded-5 c = sym (length-take-le _ _ (slice-relend-prefix-check-loaded (c .before)))
 
 slice-relend-prefix-check-loaded-2 : tie.Need-slice-relend-prefix-check-loaded-2
-slice-relend-prefix-check-loaded-2 c = omega (arith, few-words (c .before .before .before .before .before .before .before .before .before .before .before .before .before .before .before), c .before .before .before .before .before .before .before .before .before .before .before .before .before .before .before .before .before .before .before .before .before .before .before .before .before .before .before .before .before .pre .targets)
+slice-relend-prefix-check-loaded-2 c = omega (arith, few-words (c .before .before .before .before .before .before .before .before .before .before .before .before .before), c .before .before .before .before .before .before .before .before .before .before .before .before .before .before .before .before .before .before .before .before .before .before .before .before .before .pre .targets)
 
 slice-aggregate-check-loaded-6 : tie.Need-slice-aggregate-check-loaded-6
 slice-aggregate-check-loaded-6 c = sym (length-take-le _ _ (slice-relend-prefix-check-loaded-2 (c .before)))
@@ -83,16 +83,13 @@ same-length-5 c = search needs
 same-length-6 : tie.Need-same-length-6
 same-length-6 c = search needs
 
-same-length-7 : tie.Need-same-length-7
-same-length-7 c = search needs
-
 returns : tie.Need-returns
 returns c =
     let k = c .before .before .before .before in
-    let d = k .before .before .before .before .before .before .before .before .before .before .before .before .before .before .before .before .before in
-    let a = d .before .before .before .before .before .before .before .before .before .before .before .before .before .before in
+    let d = k .before .before .before .before .before .before .before .before .before .before .before .before .before .before .before in
+    let a = d .before .before .before .before .before .before .before .before .before .before .before .before in
     let h = holds-function (a .pre) (d .function-at .ensures) in
-    k .check-loaded .ensures _ (h .stands)
+    k .check-loaded .ensures _ (stands-function (a .pre) (d .function-at .ensures))
     (omega (arith, slice-aggregate-check-loaded-5 (k .before .before)))
     (omega (arith, slice-aggregate-check-loaded-6 (k .before)))
 
@@ -121,5 +118,4 @@ check-function-spec =
     same-length-4
     same-length-5
     same-length-6
-    same-length-7
     returns)

@@ -10,11 +10,11 @@ use Rattle.judging.proofs.judge_functions.Statement.{statement}
 use Rattle.judging.proofs.judge_functions.Tie as tie
 
 abbrev Inv-loop : tie.InvT-loop
-Inv-loop s functions words₀ kinds₀ places₀ nested₀ captured₀ leaders₀ targets₀ count f₀ words kinds places nested captured leaders targets f =
-    (f ≤ count) × (judgeFrom s (walk s .places) f (count - f) ≡ judge s) × Buffers words kinds places nested captured leaders targets
+Inv-loop s functions words₀ kinds₀ nested₀ captured₀ leaders₀ targets₀ count f₀ words kinds nested captured leaders targets f =
+    (f ≤ count) × (judgeFrom s (walk s .places) f (count - f) ≡ judge s) × Buffers words kinds nested captured leaders targets
 
 abbrev μ-loop : tie.MeasureT-loop
-μ-loop s functions words₀ kinds₀ places₀ nested₀ captured₀ leaders₀ targets₀ count f₀ words kinds places nested captured leaders targets f =
+μ-loop s functions words₀ kinds₀ nested₀ captured₀ leaders₀ targets₀ count f₀ words kinds nested captured leaders targets f =
     count - f
 
 loop-holds : tie.Need-loop-holds Inv-loop μ-loop
@@ -30,27 +30,25 @@ slice-aggregate-check-function-2 : tie.Need-slice-aggregate-check-function-2 Inv
 slice-aggregate-check-function-2 c = c .before .before .before .loop .inv .2 .kinds
 
 slice-aggregate-check-function-3 : tie.Need-slice-aggregate-check-function-3 Inv-loop μ-loop
-slice-aggregate-check-function-3 c = c .before .before .before .before .loop .inv .2 .places
+slice-aggregate-check-function-3 c = c .before .before .before .before .loop .inv .2 .nested
 
 slice-aggregate-check-function-4 : tie.Need-slice-aggregate-check-function-4 Inv-loop μ-loop
-slice-aggregate-check-function-4 c = c .before .before .before .before .before .loop .inv .2 .nested
+slice-aggregate-check-function-4 c = c .before .before .before .before .before .loop .inv .2 .captured
 
 slice-aggregate-check-function-5 : tie.Need-slice-aggregate-check-function-5 Inv-loop μ-loop
-slice-aggregate-check-function-5 c = c .before .before .before .before .before .before .loop .inv .2 .captured
+slice-aggregate-check-function-5 c = c .before .before .before .before .before .before .loop .inv .2 .leaders
 
 slice-aggregate-check-function-6 : tie.Need-slice-aggregate-check-function-6 Inv-loop μ-loop
-slice-aggregate-check-function-6 c = c .before .before .before .before .before .before .before .loop .inv .2 .leaders
-
-slice-aggregate-check-function-7 : tie.Need-slice-aggregate-check-function-7 Inv-loop μ-loop
-slice-aggregate-check-function-7 c = c .before .before .before .before .before .before .before .before .loop .inv .2 .targets
+slice-aggregate-check-function-6 c = c .before .before .before .before .before .before .before .loop .inv .2 .targets
 
 check-function-requires : tie.Need-check-function-requires Inv-loop μ-loop
 check-function-requires c κs =
-    let b = c .before .before .before .before .before .before .before .before .loop .inv .2 in
+    let b = c .before .before .before .before .before .before .before .loop .inv .2 in
     record {
-      whole = c .before .before .before .before .before .before .before .before .before .before .pre;
+      whole = c .before .before .before .before .before .before .before .before .before .pre;
       below = search needs;
       lists = search needs;
+      kinds = search needs;
       leaders = search needs;
       targets = search needs;
     }
@@ -60,25 +58,25 @@ enum-told c = search needs
 
 returns : tie.Need-returns Inv-loop μ-loop
 returns c =
-    let k = c .before .before .before .before .before .before .before .before in
-    let l = k .before .before .before .before .before .before .before .before .before in
+    let k = c .before .before .before .before .before .before .before in
+    let l = k .before .before .before .before .before .before .before .before in
     let a = l .before .before .args in
     let s = a .s .now in
-    function-refused s (walk s .places) (a .functions .count) (l .loop .f) (k .check-function .result) (k .before .before .before .before .before .before .before .before .loop-test .taken) (k .check-function .ensures) (c .match .keys2) ∙ l .loop .inv .1
+    function-refused s (walk s .places) (a .functions .count) (l .loop .f) (k .check-function .result) (k .before .before .before .before .before .before .before .loop-test .taken) (k .check-function .ensures) (c .match .keys2) ∙ l .loop .inv .1
 
 add-f : tie.Need-add-f Inv-loop μ-loop
-add-f c = omega (arith, few-functions (c .before .before .before .before .before .before .before .before .before .before .before .before .before .before .before .before .before .before .before .before .pre))
+add-f c = omega (arith, few-functions (c .before .before .before .before .before .before .before .before .before .before .before .before .before .before .before .before .before .before .pre))
 
 loop-less : tie.Need-loop-less Inv-loop μ-loop
 loop-less c = search needs
 
 loop-again : tie.Need-loop-again Inv-loop μ-loop
 loop-again c =
-    let k = c .before .before .before .before .before .before .before .before .before in
-    let l = k .before .before .before .before .before .before .before .before .before in
+    let k = c .before .before .before .before .before .before .before .before in
+    let l = k .before .before .before .before .before .before .before .before in
     let a = l .before .before .args in
     let s = a .s .now in
-    (omega arith, function-passed s (walk s .places) (a .functions .count) (l .loop .f) (k .check-function .result) (k .before .before .before .before .before .before .before .before .loop-test .taken) (k .check-function .ensures) (c .enum-told .given .1) ∙ l .loop .inv .1, search needs)
+    (omega arith, function-passed s (walk s .places) (a .functions .count) (l .loop .f) (k .check-function .result) (k .before .before .before .before .before .before .before .loop-test .taken) (k .check-function .ensures) (c .enum-told .given .1) ∙ l .loop .inv .1, search needs)
 
 returns-2 : tie.Need-returns-2 Inv-loop μ-loop
 returns-2 c =
@@ -101,7 +99,6 @@ judge-functions-spec =
     slice-aggregate-check-function-4
     slice-aggregate-check-function-5
     slice-aggregate-check-function-6
-    slice-aggregate-check-function-7
     check-function-requires
     enum-told
     returns

@@ -31,14 +31,11 @@ slice-aggregate-function-at-3 c = search needs
 slice-aggregate-function-at-4 : tie.Need-slice-aggregate-function-at-4
 slice-aggregate-function-at-4 c = search needs
 
-slice-aggregate-function-at-5 : tie.Need-slice-aggregate-function-at-5
-slice-aggregate-function-at-5 c = search needs
-
 function-at-requires : tie.Need-function-at-requires
 function-at-requires c κs = search needs
 
 add-past : tie.Need-add-past
-add-past c = omega (arith, few-words (c .before .before .before .before .before))
+add-past c = omega (arith, few-words (c .before .before .before .before))
 
 array-share-prefix-words : tie.Need-array-share-prefix-words
 array-share-prefix-words c = search needs
@@ -46,59 +43,53 @@ array-share-prefix-words c = search needs
 slice-aggregate-put-loaded : tie.Need-slice-aggregate-put-loaded
 slice-aggregate-put-loaded c = search needs
 
-array-share-prefix-places : tie.Need-array-share-prefix-places
-array-share-prefix-places c = search needs
+array-share-prefix-nested : tie.Need-array-share-prefix-nested
+array-share-prefix-nested c = search needs
 
 slice-aggregate-put-loaded-2 : tie.Need-slice-aggregate-put-loaded-2
 slice-aggregate-put-loaded-2 c = search needs
 
-array-share-prefix-nested : tie.Need-array-share-prefix-nested
-array-share-prefix-nested c = search needs
+array-share-prefix-captured : tie.Need-array-share-prefix-captured
+array-share-prefix-captured c = search needs
 
 slice-aggregate-put-loaded-3 : tie.Need-slice-aggregate-put-loaded-3
 slice-aggregate-put-loaded-3 c = search needs
 
-array-share-prefix-captured : tie.Need-array-share-prefix-captured
-array-share-prefix-captured c = search needs
-
 slice-aggregate-put-loaded-4 : tie.Need-slice-aggregate-put-loaded-4
 slice-aggregate-put-loaded-4 c = search needs
 
-slice-aggregate-put-loaded-5 : tie.Need-slice-aggregate-put-loaded-5
-slice-aggregate-put-loaded-5 c = search needs
-
 array-borrow-prefix-marks : tie.Need-array-borrow-prefix-marks
-array-borrow-prefix-marks c = omega (arith, few-words (c .before .before .before .before .before .before .before .before .before .before .before))
+array-borrow-prefix-marks c = omega (arith, few-words (c .before .before .before .before .before .before .before .before .before))
 
-slice-aggregate-put-loaded-6 : tie.Need-slice-aggregate-put-loaded-6
-slice-aggregate-put-loaded-6 c = sym (length-take-le _ _ (array-borrow-prefix-marks (c .before)))
+slice-aggregate-put-loaded-5 : tie.Need-slice-aggregate-put-loaded-5
+slice-aggregate-put-loaded-5 c = sym (length-take-le _ _ (array-borrow-prefix-marks (c .before)))
 
 add-numbers : tie.Need-add-numbers
-add-numbers c = omega (arith, few-words (c .before .before .before .before .before .before .before .before .before .before .before .before))
+add-numbers c = omega (arith, few-words (c .before .before .before .before .before .before .before .before .before .before))
 
 array-borrow-prefix-numbers : tie.Need-array-borrow-prefix-numbers
-array-borrow-prefix-numbers c = omega (arith, few-words (c .before .before .before .before .before .before .before .before .before .before .before .before))
+array-borrow-prefix-numbers c = omega (arith, few-words (c .before .before .before .before .before .before .before .before .before .before))
 
-slice-aggregate-put-loaded-7 : tie.Need-slice-aggregate-put-loaded-7
-slice-aggregate-put-loaded-7 c = sym (length-take-le _ _ (array-borrow-prefix-numbers (c .before)))
+slice-aggregate-put-loaded-6 : tie.Need-slice-aggregate-put-loaded-6
+slice-aggregate-put-loaded-6 c = sym (length-take-le _ _ (array-borrow-prefix-numbers (c .before)))
 
 array-borrow-prefix-counts : tie.Need-array-borrow-prefix-counts
-array-borrow-prefix-counts c = omega (arith, few-words (c .before .before .before .before .before .before .before .before .before .before .before .before .before))
+array-borrow-prefix-counts c = omega (arith, few-words (c .before .before .before .before .before .before .before .before .before .before .before))
 
-slice-aggregate-put-loaded-8 : tie.Need-slice-aggregate-put-loaded-8
-slice-aggregate-put-loaded-8 c = sym (length-take-le _ _ (array-borrow-prefix-counts (c .before)))
+slice-aggregate-put-loaded-7 : tie.Need-slice-aggregate-put-loaded-7
+slice-aggregate-put-loaded-7 c = sym (length-take-le _ _ (array-borrow-prefix-counts (c .before)))
 
 array-borrow-prefix-earlier : tie.Need-array-borrow-prefix-earlier
-array-borrow-prefix-earlier c = omega (arith, few-words (c .before .before .before .before .before .before .before .before .before .before .before .before .before .before))
+array-borrow-prefix-earlier c = omega (arith, few-words (c .before .before .before .before .before .before .before .before .before .before .before .before))
 
-slice-aggregate-put-loaded-9 : tie.Need-slice-aggregate-put-loaded-9
-slice-aggregate-put-loaded-9 c = sym (length-take-le _ _ (array-borrow-prefix-earlier (c .before)))
+slice-aggregate-put-loaded-8 : tie.Need-slice-aggregate-put-loaded-8
+slice-aggregate-put-loaded-8 c = sym (length-take-le _ _ (array-borrow-prefix-earlier (c .before)))
 
 array-borrow-prefix-fronts : tie.Need-array-borrow-prefix-fronts
-array-borrow-prefix-fronts c = omega (arith, few-words (c .before .before .before .before .before .before .before .before .before .before .before .before .before .before .before))
+array-borrow-prefix-fronts c = omega (arith, few-words (c .before .before .before .before .before .before .before .before .before .before .before .before .before))
 
-slice-aggregate-put-loaded-10 : tie.Need-slice-aggregate-put-loaded-10
-slice-aggregate-put-loaded-10 c = sym (length-take-le _ _ (array-borrow-prefix-fronts (c .before)))
+slice-aggregate-put-loaded-9 : tie.Need-slice-aggregate-put-loaded-9
+slice-aggregate-put-loaded-9 c = sym (length-take-le _ _ (array-borrow-prefix-fronts (c .before)))
 
 put-loaded-requires : tie.Need-put-loaded-requires
 put-loaded-requires c κs = search needs
@@ -109,19 +100,19 @@ same-length c = search needs
 returns : tie.Need-returns
 returns c =
     let k = c .before .before .before .before .before .before .before .before in
-    let d = k .before .before .before .before .before .before .before .before .before .before .before .before .before .before .before .before .before in
-    let a = d .before .before .before .before .before .before .before .before .args in
+    let d = k .before .before .before .before .before .before .before .before .before .before .before .before .before .before .before in
+    let a = d .before .before .before .before .before .before .before .args in
     let loads = d .function-at .ensures in
     λ end walked below ok.
     let h = holds-function (a .functions) end walked below loads (search needs) in
     k .put-loaded .ensures _ _ _ (accepted h ok) (h .stands) (search needs)
     (sized (h .words)
-    (slice-aggregate-put-loaded-6 (k .before .before .before .before .before))
-    (slice-aggregate-put-loaded-7 (k .before .before .before .before))
-    (slice-aggregate-put-loaded-8 (k .before .before .before))
-    (slice-aggregate-put-loaded-9 (k .before .before))
-    (slice-aggregate-put-loaded-10 (k .before)))
-    (held-constants h (loads .places .inside))
+    (slice-aggregate-put-loaded-5 (k .before .before .before .before .before))
+    (slice-aggregate-put-loaded-6 (k .before .before .before .before))
+    (slice-aggregate-put-loaded-7 (k .before .before .before))
+    (slice-aggregate-put-loaded-8 (k .before .before))
+    (slice-aggregate-put-loaded-9 (k .before)))
+    (held-constants h)
 
 pub put-function-spec : {M : Type 1} → statement M
 put-function-spec =
@@ -131,29 +122,26 @@ put-function-spec =
     slice-aggregate-function-at-2
     slice-aggregate-function-at-3
     slice-aggregate-function-at-4
-    slice-aggregate-function-at-5
     function-at-requires
     add-past
     array-share-prefix-words
     slice-aggregate-put-loaded
-    array-share-prefix-places
-    slice-aggregate-put-loaded-2
     array-share-prefix-nested
-    slice-aggregate-put-loaded-3
+    slice-aggregate-put-loaded-2
     array-share-prefix-captured
+    slice-aggregate-put-loaded-3
     slice-aggregate-put-loaded-4
-    slice-aggregate-put-loaded-5
     array-borrow-prefix-marks
-    slice-aggregate-put-loaded-6
+    slice-aggregate-put-loaded-5
     add-numbers
     array-borrow-prefix-numbers
-    slice-aggregate-put-loaded-7
+    slice-aggregate-put-loaded-6
     array-borrow-prefix-counts
-    slice-aggregate-put-loaded-8
+    slice-aggregate-put-loaded-7
     array-borrow-prefix-earlier
-    slice-aggregate-put-loaded-9
+    slice-aggregate-put-loaded-8
     array-borrow-prefix-fronts
-    slice-aggregate-put-loaded-10
+    slice-aggregate-put-loaded-9
     put-loaded-requires
     same-length
     returns)

@@ -62,7 +62,7 @@ returns c =
     let numbers = entering .before .before .before .before .before in
     let marks = numbers .before .before .before .before .before in
     let known = marks .before .before .before .before .before .before .before .before in
-    let a = known .before .before .before .before .before .before .args in
+    let a = known .before .before .before .before .before .args in
     λ p ks vs accepted st roomy sized read.
     let words = accepted .words in
     let leaders = marked sized (marks .mark-leaders .ensures p words) in
@@ -71,7 +71,7 @@ returns c =
     (head .put-function-line .ensures)
     (constants .put-constant-lines .ensures .meaning vs read)
     (blocks .put-blocks .ensures p
-    (held accepted st (λ i. omega (arith, known .shared-slice-known5 .given i)) roomy)
+    (held accepted st (λ i. omega (arith, known .shared-slice-known4 .given i)) roomy)
     leaders
     (numbered sized (numbers .number-blocks .ensures p leaders) counts (betweens .count-betweens .ensures p words counts))
     (fronts .note-fronts .ensures p words counts (omega arith)))

@@ -2,7 +2,7 @@
 use borrow.Author.Needs.{needs}
 use Rattle.lua51_function.specs.Function.{heldOf}
 use Rattle.lua51_deserializer.specs.Chunk.{protoAt}
-use Rattle.lua51_function.proofs.Buffers.{loads-words, loads-kinds, loads-places}
+use Rattle.lua51_function.proofs.Buffers.{loads-words, loads-places, loads-kinds}
 use Rattle.lua51_function.proofs.function.function_at.Statement.{statement}
 use Rattle.lua51_function.proofs.function.function_at.Tie as tie
 
@@ -12,11 +12,23 @@ start-of-requires c κs = search needs
 head-at-requires : tie.Need-head-at-requires
 head-at-requires c κs = search needs
 
+constants-of-requires : tie.Need-constants-of-requires
+constants-of-requires c κs = search needs
+
+place-after-requires : tie.Need-place-after-requires
+place-after-requires c κs = search needs
+
+int-at-requires : tie.Need-int-at-requires
+int-at-requires c κs = search needs
+
+cast-constants : tie.Need-cast-constants
+cast-constants c = search needs
+
 fill-words-requires : tie.Need-fill-words-requires
 fill-words-requires c κs = search needs
 
-fill-constants-requires : tie.Need-fill-constants-requires
-fill-constants-requires c κs = search needs
+fill-kinds-requires : tie.Need-fill-kinds-requires
+fill-kinds-requires c κs = search needs
 
 fill-nested-requires : tie.Need-fill-nested-requires
 fill-nested-requires c κs = search needs
@@ -33,25 +45,27 @@ same-length-3 c = search needs
 same-length-4 : tie.Need-same-length-4
 same-length-4 c = search needs
 
-same-length-5 : tie.Need-same-length-5
-same-length-5 c = search needs
-
 returns : tie.Need-returns
 unfolding protoAt
 returns c =
     let nested = c .before .before .before .before in
-    let constants = nested .before .before .before .before .before .before .before in
-    let words = constants .before .before .before .before .before in
-    let start = words .before .before .before in
-    let a = start .before .before .before .before .before .before .before .args in
+    let kinds = nested .before .before .before .before .before in
+    let words = kinds .before .before .before .before in
+    let count = words .before .before in
+    let first = count .before in
+    let at = first .before in
+    let head = at .before in
+    let start = head .before in
+    let a = start .before .before .before .before .before .before .args in
     let s = a .s .now in
     let ps = heldOf (a .functions) in
     let e = start .start-of .ensures in
+    let places = loads-places s ps (a .f) e (at .constants-of .ensures) (first .place-after .ensures) (count .int-at .ensures) in
     record {
-      head = words .before .before .head-at .ensures;
+      head = head .head-at .ensures;
+      places = places;
       words = loads-words s ps (a .f) e _ (words .fill-words .ensures);
-      kinds = loads-kinds s ps (a .f) e _ _ (constants .fill-constants .ensures .0);
-      places = loads-places s ps (a .f) e _ _ (constants .fill-constants .ensures .1);
+      kinds = loads-kinds s ps (a .f) _ _ places (kinds .fill-kinds .ensures);
       nested = nested .fill-nested .ensures .0;
       captured = nested .fill-nested .ensures .1;
     }
@@ -62,12 +76,15 @@ function-at-spec =
     (tie.spec
     start-of-requires
     head-at-requires
+    constants-of-requires
+    place-after-requires
+    int-at-requires
+    cast-constants
     fill-words-requires
-    fill-constants-requires
+    fill-kinds-requires
     fill-nested-requires
     same-length
     same-length-2
     same-length-3
     same-length-4
-    same-length-5
     returns)
