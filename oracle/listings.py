@@ -241,17 +241,19 @@ class Compared:
     equal = property(lambda self: self.other is None and not self.classes & {LIST_INDEX, LIST_256, BOTH_EDGES})
 
     def compare(self):
-        f, listing, answer = self.function, self.listing, self.answer
+        listing, answer = self.listing, self.answer
         if listing.head != answer.head:
             raise Other('F and K lines: %s, original %s' % first_difference(listing.head, answer.head))
+        self.values, self.lowest = values_of(listing.head)
         self.compare_lifts()
         replaced = {}
         if answer.by_value is None:
             answer, replaced = self.without_256()
-        self.compare_blocks(answer.by_value, replaced)
-        # by index too, where nothing differs by value: then equal means equal bytes
+        self.compare_blocks(answer.by_value, self.by_value, replaced)
+        # by index too: where no class of lines differs, equal means equal bytes
+        self.compare_blocks(answer.by_index, list, replaced)
         if self.equal and listing.body != answer.by_index:
-            raise Other('constants by index: %s, original %s' % first_difference(listing.body, answer.by_index))
+            raise Other('lines: %s, original %s' % first_difference(listing.body, answer.by_index))
         if answer.as_found != answer.by_index:
             self.classes.add(ORDER)
 
@@ -281,16 +283,14 @@ class Compared:
             raise Other('original: %s' % again.messages[-1])
         return again, places
 
-    def compare_blocks(self, by_value, replaced):
-        values, lowest = values_of(self.listing.head)
-        merged = set()
-
+    def by_value(self, numbers):
+        """A statement of the listing with its constants by value."""
         def constant(k):
-            if k >= len(values):
+            if k >= len(self.values):
                 raise Other('constant %d' % k)
-            if values[k][0] != 2 or lowest[k] != k:
-                merged.add(k)
-            return values[k]
+            if self.values[k][0] != 2 or self.lowest[k] != k:
+                self.classes.add(CONSTANTS)
+            return self.values[k]
 
         def name(k):
             value = constant(k)
@@ -298,8 +298,11 @@ class Compared:
                 raise Other('global %d' % k)
             return [6] + value[2:]
 
-        mine = blocks_of(self.listing.body, lambda numbers: Run(numbers, constant, name).out)
-        theirs = blocks_of(by_value)
+        return Run(numbers, constant, name).out
+
+    def compare_blocks(self, lines, translate, replaced):
+        self.lists = self.loops = 0
+        mine, theirs = blocks_of(self.listing.body, translate), blocks_of(lines)
         if [b.head for b in mine] != [b.head for b in theirs]:
             raise Other('blocks: %s, original %s' % first_difference([b.head for b in mine], [b.head for b in theirs]))
         for m, t in zip(mine, theirs):
@@ -310,8 +313,12 @@ class Compared:
                     self.compare_lists(m, s, o, replaced)
             if m.edges != t.edges:
                 self.compare_edges(mine, m, t)
-        if merged:
-            self.classes.add(CONSTANTS)
+        # each word that must make a difference has made one
+        words = self.function.words
+        lists = sum(chunks.name_of(w) == 'SETLIST' and chunks.c_of(w) > 255 for w in words)
+        loops = sum(chunks.name_of(w) == 'FORLOOP' and chunks.sbx_of(w) == 0 for w in words)
+        if (self.lists, self.loops) != (lists, loops):
+            raise Other('as the original has it: %d of %d lists, %d of %d loops differ' % (self.lists, lists, self.loops, loops))
 
     def compare_lists(self, block, s, o, replaced):
         """Statements may differ in the index of a list alone, and only as SETLIST's C in 8 bits makes it."""
@@ -322,6 +329,7 @@ class Compared:
         c = s[2] // INDEX_PER_C + 1
         if not any(chunks.name_of(w) == 'SETLIST' and chunks.c_of(w) == c for w in self.function.words[first:end]):
             raise different
+        self.lists += 1
         if c == 256 and replaced and o[2] == 1:
             return
         if not 256 < c < 512 or o[2] != (c % 256 - 1) * INDEX_PER_C + 1:
@@ -339,6 +347,7 @@ class Compared:
             raise different
         if m.edges[1] != [2, number + 1] or mine[between].edges != [[0, number + 1]] or t.edges != [[1, between], [2, between]]:
             raise different
+        self.loops += 1
         self.classes.add(BOTH_EDGES)
 
 
