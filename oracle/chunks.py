@@ -322,8 +322,8 @@ def at_the_edges(stacks=(250, 5, 1)):
     nested = [function([('RETURN', 0, 1)]), function([('RETURN', 0, 1)], upvalues=255)]
     constants = [None, True, 1.0, b's', b's']
     for S in stacks:
-        As = sorted({x for x in (0, 1, S - 5, S - 4, S - 3, S - 2, S - 1) if 0 <= x < S})
-        Bs = sorted({x for x in (0, 1, 2, S - 4, S - 3, S - 2, S - 1, S, S + 1, 255, 256, 257, 259, 260, 511) if 0 <= x < 512})
+        As = sorted({x for x in (0, S - 4, S - 3, S - 2, S - 1) if 0 <= x < S})
+        Bs = sorted({x for x in (0, 1, 2, S - 3, S - 2, S - 1, S, S + 1, 256, 259, 260, 511) if 0 <= x < 512})
         for name, a in itertools.product(NAMES, As):
             if name in WITH_BX:
                 shapes = [[word(name, a, bx)] for bx in range(5)]

@@ -20,14 +20,14 @@ class Other(Exception):
 
 
 def listed_classes():
-    """Number, name and chunk of each class that docs/DIFFERENCES.md lists; no chunk where it has none."""
+    """Number, name and chunk of each class: the rows of docs/DIFFERENCES.md that end in a chunk."""
     found = {}
     with open(os.path.join(here, '..', 'docs', 'DIFFERENCES.md'), encoding='utf-8') as text:
         for row in text:
             cells = [cell.strip() for cell in row.strip().strip('|').split('|')]
-            if row.startswith('|') and cells[0].isdigit():
-                data = re.fullmatch('`([0-9a-f]+)`', cells[-1])
-                found[int(cells[0])] = (cells[1], bytes.fromhex(data.group(1)) if data else None)
+            data = re.fullmatch('`([0-9a-f]+)`', cells[-1])
+            if data and cells[0].isdigit():
+                found[int(cells[0])] = (cells[1], bytes.fromhex(data.group(1)))
     return found
 
 
@@ -113,6 +113,16 @@ def original(program, datas):
     return out
 
 
+def with_words(program, data, function):
+    """Asks the original about a function of a chunk again, with some of its words replaced."""
+    def again(words):
+        changed = bytearray(data)
+        for i, w in words.items():
+            struct.pack_into('<I', changed, function.at + 4 * i, w)
+        return original(program, [bytes(changed)])[0][function.number]
+    return again
+
+
 # ---- constants by value
 
 def values_of(head):
@@ -130,10 +140,11 @@ def values_of(head):
 
 
 class Run:
-    """The numbers of a statement, read from left to right; `constant` and `name` say what is written for `2 k` and `6 k`."""
+    """The numbers of a statement, read from left to right. `constant` and `name` say what is written for a constant and a global:
+    each takes the numbers behind the 2 or the 6 from the run. `kinds` has the kinds of statement and expressions."""
 
     def __init__(self, numbers, constant, name):
-        self.given, self.at, self.out, self.constant, self.name = numbers, 0, [], constant, name
+        self.given, self.at, self.out, self.kinds, self.constant, self.name = numbers, 0, [], [], constant, name
         try:
             self.statement()
         except IndexError:
@@ -152,6 +163,7 @@ class Run:
 
     def statement(self):
         kind = self.keep()
+        self.kinds.append(kind)
         if kind == 1:
             self.expressions(self.keep() + self.keep())
         elif kind in (2, 3):
@@ -175,11 +187,12 @@ class Run:
 
     def expression(self):
         kind = self.take()
+        self.kinds.append(kind)
         if kind == 2:
-            self.out.extend(self.constant(self.take()))
+            self.out.extend(self.constant(self))
             return
         if kind == 6:
-            self.out.extend(self.name(self.take()))
+            self.out.extend(self.name(self))
             return
         self.out.append(kind)
         if kind in (1, 4, 5):
@@ -230,7 +243,7 @@ class Compared:
     `other` says what is in no class, or is None."""
 
     def __init__(self, function, listing, answer, again):
-        """`again` asks the original once more about this function, in a chunk with some words replaced."""
+        """`again` asks the original about this function with some words replaced."""
         self.function, self.listing, self.answer, self.again = function, listing, answer, again
         self.classes, self.other = set(), None
         try:
@@ -285,17 +298,18 @@ class Compared:
 
     def by_value(self, numbers):
         """A statement of the listing with its constants by value."""
-        def constant(k):
+        def constant(run):
+            k = run.take()
             if k >= len(self.values):
                 raise Other('constant %d' % k)
             if self.values[k][0] != 2 or self.lowest[k] != k:
                 self.classes.add(CONSTANTS)
             return self.values[k]
 
-        def name(k):
-            value = constant(k)
+        def name(run):
+            value = constant(run)
             if value[:2] != [2, 4]:
-                raise Other('global %d' % k)
+                raise Other('global in %s' % numbers)
             return [6] + value[2:]
 
         return Run(numbers, constant, name).out
