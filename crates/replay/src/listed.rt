@@ -55,7 +55,7 @@ fn ends_with(answer: Answer, recorded: &[u8], at: usize) -> bool {
 }
 
 // Whether opening a chunk and delivering its functions one after the other gives the recorded output.
-fn same_output(s: &[u8], recorded: &[u8]) -> bool {
+pub fn same_output(s: &[u8], recorded: &[u8]) -> bool {
     let opened = open(s);
     let answer = opened.answer;
     let Answer::Given(_) = answer else {
@@ -78,8 +78,8 @@ fn same_output(s: &[u8], recorded: &[u8]) -> bool {
     false
 }
 
-// The length that stands next in the file; none where it has no four bytes more.
-fn length_at(fd: i32) -> usize {
+// The number that stands next in the file, a length or another; 0 where it has no four bytes more.
+pub fn length_at(fd: i32) -> usize {
     let mut size = [0u8; LENGTH_SIZE];
     if io::read_full(fd, &mut size) < LENGTH_SIZE {
         return 0;

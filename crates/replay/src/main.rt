@@ -1,17 +1,20 @@
-// Runs recorded chunks through the library, and holds its answers to the records of data/judged and data/listed, whose forms
+// Runs recorded chunks through the library, and holds its answers to the records of the files in data/, whose forms
 // README.md gives. Writes for each file how many agree and how many differ, and the index of the first that differs.
 mod judged; // the walk and the judgement
 mod listed; // opening and delivering
-mod record; // what the two kinds of records share
+mod original; // the original lifter's answers
+mod record; // what the kinds of records share
 
 use crate::judged::judged_record;
 use crate::listed::listed_record;
+use crate::original::original_record;
 use crate::record::Outcome;
 
-// The two kinds of records.
+// The kinds of records.
 enum Kind {
     Judged,
     Listed,
+    Original,
 }
 
 const MOST_RECORDS: u64 = 1000000;
@@ -34,6 +37,7 @@ fn next_record(fd: i32, kind: Kind) -> Outcome {
     match kind {
         Kind::Judged => judged_record(fd),
         Kind::Listed => listed_record(fd),
+        Kind::Original => original_record(fd),
     }
 }
 
@@ -74,4 +78,5 @@ fn replay(path: &[u8], kind: Kind) {
 fn main() {
     replay(b"judged", Kind::Judged);
     replay(b"listed", Kind::Listed);
+    replay(b"original", Kind::Original);
 }

@@ -1,4 +1,4 @@
-// What the two kinds of records share: numbers of four bytes, parts of a given length, and a chunk.
+// What the kinds of records share: numbers of four bytes, parts of a given length, and a chunk.
 use lua51_deserializer::bytes::int_at;
 ghost use Prim.Native.Nat.{_<_, _^_};
 ghost use Rattle.io.specs.Counts.{Counts};

@@ -1,0 +1,1 @@
+//! Stand-in: empty (not among the files at hand: instruction/position.rs).
