@@ -1,15 +1,30 @@
 /* Rigamel: flow listings of the functions of a compiled Lua 5.1 chunk.
  *
- * A program opens a chunk, and then has the listings of its functions delivered one after the other into a buffer of its own:
+ * A program opens a chunk, and then has the listings of its functions delivered one after the other into a buffer of its own,
+ * which it makes longer where a listing does not fit:
  *
+ *     size_t size = 65536;
+ *     uint8_t *out = malloc(size);
  *     rigamel_reading reading = rigamel_closed();
  *     rigamel_answer answer = rigamel_open(chunk, length, &reading);
- *     while (answer.number == RIGAMEL_GIVEN) {
+ *     while (answer.number == RIGAMEL_GIVEN || answer.number == RIGAMEL_OUTPUT_SHORT) {
+ *         if (answer.number == RIGAMEL_OUTPUT_SHORT)
+ *             out = realloc(out, size *= 2);        (33: the same function is asked for again)
  *         answer = rigamel_deliver(chunk, length, out, size, &reading);
- *         ...                            (the first answer.length bytes of out; the loop ends with RIGAMEL_NO_FUNCTION)
+ *         if (answer.number == RIGAMEL_GIVEN)
+ *             ...                                   (the first answer.length bytes of out are the next function's listing)
  *     }
  *
- * examples/c/listing.c is such a program. Link target/staticlib/librigamel.a, which `rt staticlib rigamel` writes (x86-64 Linux).
+ * Then answer.number is RIGAMEL_NO_FUNCTION, 32, where all functions were delivered. Any other number is 1 to 14: the opening
+ * refused the chunk, and nothing was delivered. (31 comes only where no chunk is open. Whoever lends a delivery other bytes than
+ * were opened may meet 1 to 14 there, and 32 earlier or later.)
+ *
+ * examples/c/listing.c is such a program; it also looks at what malloc, realloc, reading and writing answer. Begin with 65,536
+ * bytes, as the listing program does: then only a function that the listing program refuses with 33 makes the buffer grow. To
+ * begin with fewer costs time: a delivery that ends in 33 has judged the chunk and counted the listing, more than half of what a
+ * delivery costs.
+ *
+ * Link target/staticlib/librigamel.a, which `rt staticlib rigamel` writes (x86-64 Linux).
  *
  * What holds of every call:
  *
@@ -19,10 +34,11 @@
  *   With another length it points to that many bytes. A length is at most PTRDIFF_MAX. A pointer to a reading is never NULL.
  * - Input, output and reading may not overlap, and no one else may write them while the call runs. The input is only read.
  * - There is an answer for every input, reading and output, whatever their length and content. A refusal is an answer.
- * - It takes at most some 670 KB of stack, for functions nested 32 deep, and 460 KB for others (measured, not proved).
+ * - It takes at most some 670 KiB of stack, for functions nested 32 deep, and 460 KiB for others (measured, not proved).
  *
- * What each function below is said to do is proved of its code (crates/rigamel). The numbers of the refusals are those of the
- * scope document.
+ * What each function below is said to do its contract in crates/rigamel says too, and that is proved of its source. That this
+ * header says the same, and that the compiled archive does what the source says, is not proved (docs/PROOF.md); tests/c/run tries
+ * it. The numbers of the refusals are those of the scope document.
  */
 #ifndef RIGAMEL_H
 #define RIGAMEL_H
@@ -50,27 +66,31 @@ typedef struct rigamel_answer {
     uint64_t length;
 } rigamel_answer;
 
-/* The numbers of the refusals. A place is an offset into the chunk for 1 to 6, where the function is 0; a word of the function for 8
- * to 14; and 0 for 7 and for 31 to 33, whose function is the reading's next one. */
+/* The numbers of the refusals. For 1 to 6 the function is 0, and the place an offset into the chunk. For 7 to 14 the function is
+ * the one at fault, and the place a word of it, but 0 for 7 and where it has no words. For 31 to 33 the function is the reading's
+ * next one, and the place 0. README.md says what to do about each. */
 enum rigamel_number {
     RIGAMEL_GIVEN = 0,              /* no refusal */
-    RIGAMEL_TOO_LONG = 1,           /* the chunk is over 65,536 bytes; place 0 */
+    RIGAMEL_TOO_LONG = 1,           /* over 65,536 bytes; place 0 */
     RIGAMEL_HEADER = 2,             /* a header byte differs */
-    RIGAMEL_ENDED = 3,              /* the bytes end inside a field */
-    RIGAMEL_OUT_OF_RANGE = 4,       /* a count, size, kind, boolean or flag byte is out of range, or a string is ill-formed */
-    RIGAMEL_TOO_MANY_FUNCTIONS = 5, /* a 257th function, or one at depth 33 */
-    RIGAMEL_LEFT_OVER = 6,          /* bytes are left over */
-    RIGAMEL_HEAD = 7,               /* stack, parameters, flags, lines or names do not fit each other */
-    RIGAMEL_LAST = 8,               /* there are no words, or the last is not RETURN */
-    RIGAMEL_OPERAND = 9,            /* an unknown opcode, or an operand outside */
-    RIGAMEL_TARGET = 10,            /* a target or skip outside the words */
-    RIGAMEL_JUMP = 11,              /* a test that is not followed by a jump */
-    RIGAMEL_RESULTS = 12,           /* open results without their user, or a user without them */
-    RIGAMEL_CAPTURES = 13,          /* a closure that is not followed by its captures */
-    RIGAMEL_SHARED = 14,            /* a jump to the word behind TESTSET */
-    RIGAMEL_NOT_OPENED = 31,        /* the reading is closed */
-    RIGAMEL_NO_FUNCTION = 32,       /* the next function is not below the chunk's count: all are delivered */
-    RIGAMEL_OUTPUT_SHORT = 33       /* the output is shorter than the listing: lend a longer one */
+    RIGAMEL_ENDED = 3,              /* bytes end inside a field */
+    RIGAMEL_OUT_OF_RANGE = 4,       /* words above 8,192; another count or string size above 65,536; kind not listed; boolean
+                                       above 1; flags above 7; absent constant string; string not ending in 0 */
+    RIGAMEL_TOO_MANY_FUNCTIONS = 5, /* a 257th function, or depth 33 */
+    RIGAMEL_LEFT_OVER = 6,          /* bytes left over */
+    RIGAMEL_HEAD = 7,               /* stack above 250; parameters plus flag 1 above stack; flag 4 without flag 1; word lines
+                                       neither 0 nor as many as words; more upvalue names than upvalues */
+    RIGAMEL_LAST = 8,               /* no words, or the last is not RETURN */
+    RIGAMEL_OPERAND = 9,            /* opcode above 37, or an operand outside */
+    RIGAMEL_TARGET = 10,            /* target or skip outside the words */
+    RIGAMEL_JUMP = 11,              /* a test or TFORLOOP whose next word is not JMP */
+    RIGAMEL_RESULTS = 12,           /* open results not used by the next word of the same range, or a user with none before it, or
+                                       with its first slot above the opener's A; TAILCALL not used by RETURN with the same A */
+    RIGAMEL_CAPTURES = 13,          /* CLOSURE not followed in its range by a MOVE or GETUPVAL for each upvalue of its function */
+    RIGAMEL_SHARED = 14,            /* the word after TESTSET is a jump target or skip of any word, itself included */
+    RIGAMEL_NOT_OPENED = 31,        /* not opened: the reading is closed */
+    RIGAMEL_NO_FUNCTION = 32,       /* the next function is not below the lent chunk's count: all of them are delivered */
+    RIGAMEL_OUTPUT_SHORT = 33       /* output shorter than the listing: lend a longer one */
 };
 
 /* The most bytes that rigamel_print_refusal prints, whatever the numbers. */

@@ -285,13 +285,15 @@ static uint8_t *read_file(const char *name, size_t *length)
 {
     FILE *file = fopen(name, "rb");
     uint8_t *bytes = (uint8_t *)malloc(MOST);
-    if (file == NULL || bytes == NULL) {
-        fprintf(stderr, "interface: cannot read %s\n", name);
-        exit(2);
+    if (file != NULL && bytes != NULL) {
+        *length = fread(bytes, 1, MOST, file);
+        if (!ferror(file) && *length > 0) {
+            fclose(file);
+            return (uint8_t *)realloc(bytes, *length);
+        }
     }
-    *length = fread(bytes, 1, MOST, file);
-    fclose(file);
-    return (uint8_t *)realloc(bytes, *length);
+    fprintf(stderr, "interface: cannot read %s\n", name);
+    exit(2);
 }
 
 int main(int argc, char **argv)

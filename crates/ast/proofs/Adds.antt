@@ -8,7 +8,7 @@ use native.Mathlib.Omega.{arith}
 use borrow.Author.Tests.{lt-ltb, le-ltb}
 use lib.ListN.{length, take, drop, drop-of-length-le, getD, set, length-set}
 use lib.Seq.{drop-cons, take-suc-set, take-append-le, take-all, length-take-le}
-use Rattle.ast.specs.Buffer.{Buffer, buffer, add, adds}
+use Rattle.ast.specs.Buffer.{Buffer, buffer, add, adds, Writes}
 
 -- ---- composing
 
@@ -21,6 +21,10 @@ adds-append b (n ∷ x) y = adds-append (add b n) x y
 -- one writer after another
 pub adds-then : (b : Buffer) {c d : Buffer} (x y : List ℕ) → c ≡ adds b x → d ≡ adds c y → d ≡ adds b (x ++ y)
 adds-then b x y first second = second ∙ (ap (λ (z : Buffer). adds z y) first ∙ sym (adds-append b x y))
+
+-- what a writer wrote
+pub wrote : (b : Buffer) {c : Buffer} (xs : List ℕ) → c ≡ adds b xs → Writes b c
+wrote b xs e = record { numbers = xs; written = e }
 
 pub adds-none : (b : Buffer) → adds b [] ≡ b
 unfolding adds

@@ -6,21 +6,24 @@ use mathlib.Core.Path.{_≡_, refl}
 use mathlib.Core.List.{List, [], _∷_, flatMap, flatten}
 use lib.Dec.{eqb}
 use borrow.Author.Tests.{eqb-true}
-use Rattle.lua51_deserializer.proofs.Tests.{and-left, and-right}
+use Rattle.basics.proofs.Tests.{and-left, and-right}
 use Rattle.lines.specs.Line.{digits, decimal, column, line}
-use Rattle.lua51_deserializer.specs.Range.{over, sum, times}
-use Rattle.lua51_deserializer.specs.Word.{opOf, row, rowOf}
-use Rattle.lua51_deserializer.specs.Chunk.{again, intAt, field, limited, counted, body, string, present, constantOf}
+use Rattle.basics.specs.Range.{over, sum, times}
+use Rattle.lua51_instruction.specs.Word.{opOf, row, rowOf}
+use Rattle.lua51_deserializer.specs.Chunk.{again, field, limited, counted, body, string, present, constantOf}
+use Rattle.lua51_value.specs.Bytes.{intAt}
 use Rattle.lua51_deserializer.specs.Chunk.{constant, head, code, constants, lines, locals, names, many, begin, nest}
-use Rattle.lua51_deserializer.specs.Chunk.{finish, function, exactly, signature, ends, walk, kindOf, ints, valueAt}
+use Rattle.lua51_deserializer.specs.Chunk.{finish, function, exactly, signature, ends, walk, ints}
+use Rattle.lua51_value.specs.Value.{kindOf, valueAt}
 use Rattle.lua51_deserializer.specs.Chunk.{valuesAt, nestedIn, constantsAt, protoAt}
 use Rattle.ast.specs.Statement.{count, expr, exprs, tailNumbers, run, registers}
 use Rattle.cfg.specs.Graph.{claims, leader, blockOf, leaderFrom, past, leaving, exits, entering, isLoop, thenOf}
 use Rattle.cfg.specs.Graph.{diverted, betweenOf}
+use Rattle.lua51_instruction.specs.Jump.{targetOf}
 use Rattle.lua51_lifter.specs.Check.{firstRefusal, headFault, lastFault, operand, operandFault, landsInside, tests}
 use Rattle.lua51_lifter.specs.Check.{wordVerdict, opener, user, slot, matches, unused-results, missing-results}
 use Rattle.lua51_lifter.specs.Check.{allCaptures, reaches, reached, useVerdict, check}
-use Rattle.lua51_lifter.specs.Lift.{rk, condition, concatenated, captures, taken, opened, statementsBy, pending}
+use Rattle.lua51_lifter.specs.Lift.{rk, condition, concatenated, captures, taken, openResults, statementsBy, pending}
 use Rattle.lua51_lifter.specs.Lift.{statements, onThen}
 use Rattle.lua51_lifter.specs.Blocks.{front, leads, codeBlock, entryBlock, betweenBlock, graph}
 use Rattle.lua51_lifter.specs.Listing.{value, constantLines, statementLine, edgeLine, blockLine, blockLines, listing}
@@ -29,9 +32,10 @@ use Rattle.reading.specs.Program.{listings, piecesFor, pieces}
 use Rattle.follow.specs.Account.{onward, account}
 use Rattle.follow.specs.GraphFollower.{fold, folds, marked, marks, opensOf, opensIn, inside, outside, insides, outsides}
 use Rattle.follow.specs.GraphFollower.{tailOpens, tailMarked, actions, bare, endingOf, ending, answered, nextBlock}
-use Rattle.follow.specs.GraphFollower.{graphStep, byGraph}
-use Rattle.follow.specs.WordFollower.{named, RK, jumped, upward, slots, nils, strung, captured, takes, testing, doing}
-use Rattle.follow.specs.WordFollower.{wordStepFrom, wordStep, byWords}
+use Rattle.follow.specs.GraphFollower.{graphStep, entryFrom, byBlocks, byGraph}
+use Rattle.follow.specs.WordFollower.{named, RK, jumped, upward, slots, nils, strung, areCaptures, capturesFrom}
+use Rattle.follow.specs.WordFollower.{takesOpen, firstSlot, taken-up, kept, takes, testing, doing, wordStepFrom}
+use Rattle.follow.specs.WordFollower.{wordStep, byWords}
 use Rattle.lines.specs.Text.{bytes}
 use Rattle.cases.specs.Make.{int, functionBytes, chunk}
 use Rattle.cases.specs.Cases.{answerNumbers, eventNumbers, functionOf, blockAt, told, Case, AllHold}
@@ -68,18 +72,18 @@ hold (c ∷ cs) h =
 -- ------------------------------------------------------------ the theorem
 
 pub all-hold : AllHold cases
-unfolding flatMap flatten digits decimal column line over sum times opOf row rowOf again intAt field limited counted body
+unfolding targetOf flatMap flatten digits decimal column line over sum times opOf row rowOf again intAt field limited counted body
     string present constantOf constant head code constants lines locals names many begin nest finish function
     exactly signature ends walk kindOf ints valueAt valuesAt nestedIn constantsAt protoAt count expr exprs tailNumbers run
     registers claims leader blockOf leaderFrom past leaving exits entering isLoop thenOf diverted betweenOf firstRefusal
     headFault lastFault operand operandFault landsInside tests wordVerdict opener user slot matches unused-results
-    missing-results allCaptures reaches reached useVerdict check rk condition concatenated captures taken opened
+    missing-results allCaptures reaches reached useVerdict check rk condition concatenated captures taken openResults
     statementsBy pending statements onThen front leads codeBlock entryBlock betweenBlock graph value constantLines
     statementLine edgeLine blockLine blockLines listing judgeFrom judgeRead judge listingOf listings piecesFor
     pieces onward account fold folds marked marks opensOf opensIn inside outside insides outsides tailOpens
-    tailMarked actions bare endingOf ending answered nextBlock graphStep byGraph named RK jumped upward slots nils
-    strung captured takes testing doing wordStepFrom wordStep byWords int functionBytes chunk bytes answerNumbers
-    eventNumbers functionOf blockAt told return-alone return-listing equal-jump equal-back numeric-for
-    loop-onward loop-first three-deep proved-cases jump-over-listing past-the-jump slip-cases listing-0 listing-1 listing-2
-    nested-cases cases
+    tailMarked actions bare endingOf ending answered nextBlock graphStep entryFrom byBlocks byGraph named RK jumped
+    upward slots nils strung areCaptures capturesFrom takesOpen firstSlot taken-up kept takes testing doing
+    wordStepFrom wordStep byWords int functionBytes chunk bytes answerNumbers eventNumbers functionOf blockAt told
+    return-alone return-listing equal-jump equal-back numeric-for loop-onward loop-first three-deep proved-cases
+    jump-over-listing past-the-jump slip-cases listing-0 listing-1 listing-2 nested-cases cases
 all-hold = hold cases refl

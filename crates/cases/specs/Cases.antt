@@ -4,7 +4,7 @@ use mathlib.Core.Bool.{Bool, true, false}
 use mathlib.Core.Path.{_≡_}
 use mathlib.Core.List.{List, [], _∷_, flatMap}
 use lib.ListN.{getD}
-use Rattle.lua51_deserializer.specs.Proto.{Proto}
+use Rattle.lua51_instruction.specs.Proto.{Proto}
 use Rattle.lua51_deserializer.specs.Chunk.{walk, protoAt}
 use Rattle.ast.specs.Statement.{expr, run}
 use Rattle.lua51_lifter.specs.Blocks.{Block, graph}

@@ -2,11 +2,11 @@
 use mathlib.Core.Bool.{true}
 use mathlib.Core.List.{List, [], _∷_, _++_}
 use Prim.Native.Nat.{ℕ}
-use Rattle.lua51_deserializer.specs.Word.{MOVE, LOADK, LOADBOOL, GETUPVAL, JMP, EQ, CALL, RETURN, FORLOOP, FORPREP}
-use Rattle.lua51_deserializer.specs.Word.{SETLIST, CLOSURE}
+use Rattle.lua51_instruction.specs.Word.{MOVE, LOADK, LOADBOOL, GETUPVAL, JMP, EQ, CALL, RETURN, FORLOOP, FORPREP}
+use Rattle.lua51_instruction.specs.Word.{SETLIST, CLOSURE}
 use Rattle.lua51_deserializer.specs.Chunk.{header}
 use Rattle.lines.specs.Text.{bytes}
-use Rattle.lua51_deserializer.specs.Encode.{abc, abx, jumps}
+use Rattle.lua51_instruction.specs.Encode.{abc, abx, jumps}
 use Rattle.cases.specs.Make.{functionBytes, chunk}
 use Rattle.cases.specs.Cases.{Case, Asked, judged, listed, printed, statements, edges, by-graph, by-words}
 

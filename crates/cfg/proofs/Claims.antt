@@ -7,13 +7,14 @@ use mathlib.Core.Path.{_≡_, refl, _∙_}
 use lib.Dec.{eqb, ltb}
 use lib.ListN.{length, getD}
 use borrow.Author.Tests.{ltb-true, ltb-false, lt-ltb, le-ltb}
-use Rattle.lua51_deserializer.specs.Word.{Flow, rowOf, fieldOpcode}
-use Rattle.lua51_deserializer.specs.Proto.{Proto, size, flowAt}
-use Rattle.lua51_deserializer.specs.Range.{sum, times}
-use Rattle.lua51_deserializer.proofs.Tests.{either-way}
+use Rattle.lua51_instruction.specs.Word.{Flow, rowOf, fieldOpcode}
+use Rattle.lua51_instruction.specs.Proto.{Proto, size, flowAt}
+use Rattle.basics.specs.Range.{sum, times}
+use Rattle.basics.proofs.Tests.{either-way}
 use Rattle.cfg.specs.Graph.{claims, leader}
-use Rattle.cfg.specs.Arrays.{marked, mark, bit}
-use Rattle.cfg.proofs.Tables.{marked-at, sum-more}
+use Rattle.cfg.specs.Arrays.{putMarks, mark, bit}
+use Rattle.cfg.proofs.Tables.{marked-at}
+use Rattle.basics.proofs.Tables.{sum-more}
 
 -- what the flow f of a function's word says, said of the function
 pub at-flow : {A : Type 0} (g : Flow → A) (x : A) (p : Proto) (ws : List ℕ) (i : ℕ) (f : Flow) → p .words ≡ ws → f ≡ rowOf (fieldOpcode (getD ws i 0)) .flow → x ≡ g f → x ≡ g (flowAt p i)
@@ -40,7 +41,7 @@ module _ (p : Proto) where
   leads-all j = refl
 
   -- the marks of one word more
-  pub marks-turn : (i j : ℕ) (a : List ℕ) → j < length a → getD a j 0 ≡ bit (leadsBy i j) → getD (marked (claims p i (flowAt p i)) a) j 0 ≡ bit (leadsBy (i + 1) j)
+  pub marks-turn : (i j : ℕ) (a : List ℕ) → j < length a → getD a j 0 ≡ bit (leadsBy i j) → getD (putMarks (claims p i (flowAt p i)) a) j 0 ≡ bit (leadsBy (i + 1) j)
   marks-turn i j a lt h = marked-at (claims p i (flowAt p i)) a j lt ∙ rw (h, sum-more (λ i. times j (claims p i (flowAt p i))) i) joined
     where
       made : ℕ

@@ -4,19 +4,22 @@ use native.Mathlib.Omega.{arith}
 use native.Mathlib.Decide.{ℕ-discrete}
 use mathlib.Core.Bool.{true, false, cond}
 use mathlib.Core.List.{List, [], _∷_}
-use mathlib.Core.Path.{_≡_, refl, _∙_}
+use mathlib.Core.Path.{_≡_, refl, ap, _∙_}
 use lib.Dec.{eqb, ltb}
 use lib.ListN.{length, getD, set, length-set, List·getD-eq-default}
 use lib.Seq.{getD-set-same, getD-set-other}
 use borrow.Author.Tests.{ltb-true, ltb-false, eq-eqb, ne-eqb, lt-ltb}
-use Rattle.lua51_deserializer.specs.Proto.{Proto, size, flowAt}
-use Rattle.lua51_deserializer.specs.Range.{sum, times}
-use Rattle.lua51_deserializer.proofs.Tests.{either-way}
+use Rattle.lua51_instruction.specs.Proto.{Proto, size, flowAt}
+use Rattle.basics.specs.Range.{sum, times, table}
+use Rattle.basics.proofs.Tests.{either-way}
 use Rattle.cfg.specs.declared.edges.Edges.{Edges}
 use Rattle.cfg.specs.declared.edges.Edges.the-variants.{None, One, Two}
-use Rattle.cfg.specs.Graph.{leader, leaving, exits, entering}
-use Rattle.cfg.specs.Arrays.{bit, table, edgesMeant, targets, entered}
-use Rattle.cfg.proofs.Tables.{bit-few, table-at, table-length, started-at, sum-more}
+use Rattle.cfg.specs.Graph.{leaving, exits, entering}
+use Rattle.cfg.specs.Arrays.{bit, leaders, edgesMeant, targets, entered, exitsBy, enteringBy}
+use Rattle.cfg.proofs.Tables.{bit-few, started-at}
+use Rattle.basics.proofs.Tables.{table-at, table-length, sum-more, sum-same}
+use Rattle.basics.proofs.Range.{over-same}
+use Rattle.cfg.proofs.Numbering.{marks-length, mark-leads}
 
 -- ------------------------------------------------------------ counts
 
@@ -77,24 +80,29 @@ few None t = omega arith
 few (One e) t = omega (arith, bit-few (eqb t (e .to)))
 few (Two e f) t = omega (arith, bit-few (eqb t (e .to)), bit-few (eqb t (f .to)))
 
-module _ (p : Proto) (i : ℕ) where
-  -- a word behind which no range starts sends none to another
-  pub exits-none : (t : ℕ) → leader p (i + 1) ≡ false → times t [] ≡ exits p t i
-  unfolding exits times
-  exits-none t h = rw h
+module _ (p : Proto) (marks : List ℕ) where
+  module _ (i t : ℕ) where
+    -- a word behind which no range starts sends none to another
+    pub exits-none : eqb (getD marks (i + 1) 0) 1 ≡ false → times t [] ≡ exitsBy p marks t i
+    unfolding times
+    exits-none h = rw h
 
-  pub exits-some : (t : ℕ) (r : Edges) → i < size p → leader p (i + 1) ≡ true → edgesMeant r ≡ cond (ltb i (size p)) (leaving p i (flowAt p i)) [] → times t (targets r) ≡ exits p t i
-  unfolding exits
-  exits-some t r lt h e = rw (h, rw (lt-ltb i (size p) lt) at e)
+    pub exits-some : (r : Edges) → i < size p → eqb (getD marks (i + 1) 0) 1 ≡ true → edgesMeant r ≡ cond (ltb i (size p)) (leaving p i (flowAt p i)) [] → times t (targets r) ≡ exitsBy p marks t i
+    exits-some r lt h e = rw (h, rw (lt-ltb i (size p) lt) at e)
 
-  -- the counts of one word more
-  pub counts-turn : (t : ℕ) (ts a : List ℕ) → t < length a → times t ts ≡ exits p t i → getD a t 0 ≡ bit (eqb t 0) + sum (exits p t) 0 i → getD (entered ts a) t 0 ≡ bit (eqb t 0) + sum (exits p t) 0 (i + 1)
-  counts-turn t ts a lt e h = omega (arith, entered-at ts a t lt, sum-more (exits p t) i)
+    -- the counts of one word more
+    pub counts-turn : (ts a : List ℕ) → t < length a → times t ts ≡ exitsBy p marks t i → getD a t 0 ≡ bit (eqb t 0) + sum (exitsBy p marks t) 0 i → getD (entered ts a) t 0 ≡ bit (eqb t 0) + sum (exitsBy p marks t) 0 (i + 1)
+    counts-turn ts a lt e h = omega (arith, entered-at ts a t lt, sum-more (exitsBy p marks t) i)
 
-pub counts-none : (p : Proto) (t : ℕ) → bit (eqb t 0) ≡ bit (eqb t 0) + sum (exits p t) 0 0
-unfolding sum
-counts-none p t = omega arith
+  pub counts-none : (t : ℕ) → bit (eqb t 0) ≡ bit (eqb t 0) + sum (exitsBy p marks t) 0 0
+  unfolding sum
+  counts-none t = omega arith
 
-pub counts-all : (p : Proto) (t : ℕ) → entering p t ≡ bit (eqb t 0) + sum (exits p t) 0 (size p)
-unfolding entering
-counts-all p t = refl
+  -- the function's own marks give its entering edges
+  module _ (e : marks ≡ leaders p) where
+    pub entering-by : (t : ℕ) → enteringBy p marks t ≡ entering p t
+    unfolding entering exits
+    entering-by t = ap (λ (n : ℕ). bit (eqb t 0) + n) (sum-same (exitsBy p marks t) (exits p t) 0 (size p) (λ i lt. rw (mark-leads p marks e (0 + i + 1) (omega (arith, marks-length p marks e)))))
+
+    pub counts-by : (n : ℕ) → table (enteringBy p marks) n ≡ table (entering p) n
+    counts-by n = over-same (enteringBy p marks) (entering p) 0 n (λ t lt. entering-by (0 + t))

@@ -4,11 +4,12 @@ use Prim.Native.Nat.{ℕ, _+_}
 use mathlib.Core.List.{List, [], _∷_, flatMap}
 use mathlib.Core.Bool.{false, cond}
 use mathlib.Core.Path.{_≡_, refl}
-use Rattle.lua51_deserializer.specs.Word.{MOVE, LOADBOOL, JMP, TEST, TESTSET, RETURN, FORLOOP, FORPREP, TFORLOOP, opOf}
-use Rattle.lua51_deserializer.specs.Word.{row, rowOf}
-use Rattle.lua51_deserializer.specs.Proto.{Proto, flowAt}
-use Rattle.lua51_deserializer.specs.Range.{sum, over, times, only}
-use Rattle.lua51_deserializer.specs.Encode.{abc, jumps}
+use Rattle.lua51_instruction.specs.Word.{MOVE, LOADBOOL, JMP, TEST, TESTSET, RETURN, FORLOOP, FORPREP, TFORLOOP, opOf}
+use Rattle.lua51_instruction.specs.Word.{row, rowOf}
+use Rattle.lua51_instruction.specs.Jump.{targetOf}
+use Rattle.lua51_instruction.specs.Proto.{Proto, flowAt}
+use Rattle.basics.specs.Range.{sum, over, times, only}
+use Rattle.lua51_instruction.specs.Encode.{abc, jumps}
 use Rattle.cfg.specs.Graph.{claims, leader, blockOf, leaving, exits, entering, isLoop, thenOf, diverted}
 use Rattle.cfg.specs.Graph.{betweenOf}
 
@@ -48,18 +49,18 @@ sample = record {
   words = sample-words;
   kinds = [];
   nested = [];
-  captured = [];
+  nups = [];
   lines = [];
   names = 0;
 }
 
 -- every word from 0 to n but 3 starts a range; by its number
 sample-blocks : over (λ j. cond (leader sample j) (only (blockOf sample j)) []) 0 13 ≡ 0 ∷ 1 ∷ 2 ∷ 3 ∷ 4 ∷ 5 ∷ 6 ∷ 7 ∷ 8 ∷ 9 ∷ 10 ∷ 11 ∷ []
-unfolding over sum times opOf row rowOf claims leader blockOf sample sample-words
+unfolding targetOf over sum times opOf row rowOf claims leader blockOf sample sample-words
 sample-blocks = refl
 
 sample-unled : leader sample 3 ≡ false
-unfolding sum times opOf row rowOf claims leader sample sample-words
+unfolding targetOf sum times opOf row rowOf claims leader sample sample-words
 sample-unled = refl
 
 -- the edges of each word that ends a range: kind and word
@@ -86,15 +87,15 @@ sample-edges : over (λ i. cond (leader sample (i + 1)) (only (flatMap (λ e. e 
     (0 ∷ 9 ∷ []) ∷
     -- RETURN at 11
     [] ∷ []
-unfolding flatMap over sum times opOf row rowOf claims leader leaving sample sample-words
+unfolding targetOf flatMap over sum times opOf row rowOf claims leader leaving sample sample-words
 sample-edges = refl
 
 -- how many edges enter each word's range: the entry's at 0
 sample-entered : over (λ j. only (entering sample j)) 0 13 ≡ 1 ∷ 1 ∷ 1 ∷ 0 ∷ 1 ∷ 2 ∷ 1 ∷ 2 ∷ 2 ∷ 2 ∷ 1 ∷ 1 ∷ 0 ∷ []
-unfolding over sum times opOf row rowOf claims leader leaving exits entering sample sample-words
+unfolding targetOf over sum times opOf row rowOf claims leader leaving exits entering sample sample-words
 sample-entered = refl
 
 -- the FORLOOP's Then edge shares its block with the FORPREP's, so it is diverted; the TFORLOOP's does not
 sample-betweens : over (λ i. cond (diverted sample i) (only (betweenOf sample i)) []) 0 12 ≡ 13 ∷ []
-unfolding over sum times opOf row rowOf claims leader blockOf leaving exits entering isLoop thenOf diverted betweenOf sample sample-words
+unfolding targetOf over sum times opOf row rowOf claims leader blockOf leaving exits entering isLoop thenOf diverted betweenOf sample sample-words
 sample-betweens = refl

@@ -1,23 +1,18 @@
 -- The arrays that the code fills from a function's words, and what its values stand for.
-use Prim.Native.Nat.{ℕ, _+_, _<_}
-use mathlib.Core.Bool.{Bool, true, cond}
+use Prim.Native.Nat.{ℕ, _+_}
+use mathlib.Core.Bool.{Bool, not, cond, _&&_}
 use mathlib.Core.List.{List, [], _∷_, map}
-use mathlib.Core.Path.{_≡_}
-use lib.Dec.{ltb}
-use lib.ListN.{length, getD, set}
-use Rattle.lua51_deserializer.specs.Range.{only, over, sum}
-use Rattle.lua51_deserializer.specs.Proto.{Proto, size}
-use Rattle.cfg.specs.Graph.{leader, blockOf, entryOf, entering, isLoop, thenOf, diverted}
+use lib.Dec.{eqb}
+use lib.ListN.{getD, set}
+use Rattle.basics.specs.Range.{only, sum, times, table}
+use Rattle.lua51_instruction.specs.Proto.{Proto, size, flowAt}
+use Rattle.cfg.specs.Graph.{leader, leaving, entering, isLoop, thenOf}
 use Rattle.cfg.specs.Graph as graph
 use Rattle.cfg.specs.declared.marks.Claims.{Claims}
 use Rattle.cfg.specs.declared.marks.Claims.the-variants as claims
 use Rattle.cfg.specs.declared.edges.Edge.{Edge}
 use Rattle.cfg.specs.declared.edges.Edges.{Edges}
 use Rattle.cfg.specs.declared.edges.Edges.the-variants as edges
-
--- what f gives at 0, 1, .. for n numbers
-abbrev pub table : (ℕ → ℕ) → ℕ → List ℕ
-table f n = over (λ i. only (f i)) 0 n
 
 -- 1 for yes, 0 for no
 abbrev pub bit : Bool → ℕ
@@ -32,9 +27,9 @@ claimed (claims.One j) = only j
 claimed (claims.Two j k) = j ∷ k ∷ []
 
 -- an array with 1 at some places more
-unfoldable pub marked : List ℕ → List ℕ → List ℕ
-marked [] a = a
-marked (j ∷ js) a = marked js (set a j 1)
+unfoldable pub putMarks : List ℕ → List ℕ → List ℕ
+putMarks [] a = a
+putMarks (j ∷ js) a = putMarks js (set a j 1)
 
 -- the mark of word j: 1 where a range starts
 abbrev pub mark : Proto → ℕ → ℕ
@@ -43,10 +38,6 @@ mark p j = bit (leader p j)
 -- the marks of the words 0 to n
 abbrev pub leaders : Proto → List ℕ
 leaders p = table (mark p) (size p + 1)
-
--- the number of the block whose range starts at word j; behind n the entry's, which follows the code blocks
-abbrev pub numberBy : Proto → ℕ → ℕ
-numberBy p j = cond (ltb (size p) j) (entryOf p) (blockOf p j)
 
 -- ------------------------------------------------------------ edges
 
@@ -68,13 +59,19 @@ unfoldable pub entered : List ℕ → List ℕ → List ℕ
 entered [] a = a
 entered (t ∷ ts) a = entered ts (set a t (getD a t 0 + 1))
 
+-- `exits` and `entering`, where the ranges are those that an array marks
+abbrev pub exitsBy : Proto → List ℕ → ℕ → ℕ → ℕ
+exitsBy p marks t i = cond (eqb (getD marks (i + 1) 0) 1) (times t (map (λ e. e .to) (leaving p i (flowAt p i)))) 0
+
+abbrev pub enteringBy : Proto → List ℕ → ℕ → ℕ
+enteringBy p marks t = bit (eqb t 0) + sum (exitsBy p marks t) 0 (size p)
+
+-- how many edges enter at the words 0 to n
+abbrev pub entrances : Proto → List ℕ
+entrances p = table (entering p) (size p + 1)
+
 -- ------------------------------------------------------------ between blocks
 
--- the counts of entering edges, as far as the Then edges of loops go
-pub record Counted (p : Proto) (counts : List ℕ) : Type 0 where
-  pub counted : counts ≡ table (entering p) (length counts)
-  pub inside : (i : ℕ) → isLoop p i ≡ true → thenOf p i < length counts
-
--- how many loops before word i have a between block: what their numbers go by (`betweenOf`)
-abbrev pub betweensBefore : Proto → ℕ → ℕ
-betweensBefore p i = sum (λ j. bit (diverted p j)) 0 i
+-- `diverted`, where the counts of entering edges are those of an array
+abbrev pub divertedBy : Proto → List ℕ → ℕ → Bool
+divertedBy p counts i = isLoop p i && not (eqb (getD counts (thenOf p i) 0) 1)

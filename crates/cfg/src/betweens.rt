@@ -1,72 +1,50 @@
-// Between blocks: which loops have one, and their numbers.
+// Between blocks: which loops have one.
 ghost use mathlib.Core.Path.{_≡_};
-ghost use mathlib.Core.Bool.{not};
-ghost use lib.Dec.{eqb};
-ghost use lib.ListN.{length, getD};
-ghost use Prim.Native.Nat.{_<_};
-ghost use Rattle.lua51_deserializer.specs.Proto.{Proto, size};
-ghost use Rattle.cfg.specs.Graph.{thenOf, diverted};
-ghost use Rattle.cfg.specs.Arrays.{table, Counted, betweensBefore};
-use crate::flow::target_of;
-use lua51_deserializer::instruction::opcode_of;
+ghost use mathlib.Core.Bool.{cond};
+ghost use lib.Dec.{ltb};
+ghost use lib.ListN.{getD};
+ghost use Prim.Native.Nat.{ℕ};
+ghost use Rattle.lua51_instruction.specs.Proto.{Proto, size};
+ghost use Rattle.cfg.specs.Graph.{isLoop, thenOf};
+ghost use Rattle.cfg.specs.Arrays.{divertedBy};
+use crate::flow::flow_of;
+use crate::flow::landing;
+use basics::slices::number_at;
+use basics::slices::word_at;
+use lua51_instruction::instruction::Flow;
 
-// The opcodes of loops.
-const FORLOOP: u8 = 31;
+// Whether a word is a loop: FORLOOP or TFORLOOP.
+pub fn is_loop(word: u32) -> bool
+    ensures { λ r. ⌜ ((p : Proto) (i : ℕ) → getD (p .words) i 0 ≡ word → r ≡ isLoop p i) ⌝ }
+{
+    let flow = flow_of(word);
+    match flow {
+        Flow::NumericLoop => true,
+        Flow::GenericLoop => true,
+        _ => false,
+    }
+}
 
-const TFORLOOP: u8 = 33;
-
-// The word that the Then edge of word i goes to, where it has one.
+// The word that the Then edge of word i goes to, where it has one; 0 where there is no such word.
 pub fn then_of(words: &[u32], i: usize) -> usize
-    ensures { λ r. ⌜ ((p : Proto) → p .words ≡ now (words .entry) → i < size p → r ≡ thenOf p i) ⌝ }
+    ensures { λ r. ⌜ ((p : Proto) → p .words ≡ now (words .entry) → r ≡ cond (ltb i (size p)) (thenOf p i) 0) ⌝ }
 {
     if words.len() <= i {
         return 0;
     }
-    let word = words[i];
-    if opcode_of(word) == FORLOOP {
-        return target_of(i, word);
-    }
-    i + 1
+    let flow = flow_of(words[i]);
+    let Flow::NumericLoop = flow else {
+        return i + 1;
+    };
+    landing(words, i)
 }
 
-// Whether other than one edge enters at a word; so it is where none is counted.
-fn is_shared(counts: &[usize], to: usize) -> bool
-    ensures { λ r. ⌜ r ≡ not (eqb (getD (now (counts .entry)) to 0) 1) ⌝ }
-{
-    if counts.len() <= to {
-        return true;
-    }
-    counts[to] != 1
-}
-
-// Whether word i is a loop whose Then block has other entering edges, so that its assignment takes a between block.
+// Whether word i is a loop to whose Then block other than one edge is counted, so that its assignment takes a between block.
 pub fn is_diverted(words: &[u32], counts: &[usize], i: usize) -> bool
-    ensures { λ r. ⌜ ((p : Proto) → p .words ≡ now (words .entry) → Counted p (now (counts .entry)) → r ≡ diverted p i) ⌝ }
+    ensures { λ r. ⌜ ((p : Proto) → p .words ≡ now (words .entry) → r ≡ divertedBy p (now (counts .entry)) i) ⌝ }
 {
-    if words.len() <= i {
+    if !is_loop(word_at(words, i)) {
         return false;
     }
-    let word = words[i];
-    let opcode = opcode_of(word);
-    if opcode == FORLOOP {
-        return is_shared(counts, target_of(i, word));
-    }
-    if opcode == TFORLOOP {
-        return is_shared(counts, i + 1);
-    }
-    false
-}
-
-// Counts at each word the loops before it that have a between block. The number of a loop's between block is that count
-// behind the entry's number and 1.
-pub fn count_betweens(words: &[u32], counts: &[usize], earlier: &mut [usize])
-    ensures { λ _. ⌜ ((p : Proto) → p .words ≡ now (words .entry) → Counted p (now (counts .entry)) → now (earlier .exit) ≡ table (betweensBefore p) (length (now (earlier .entry)))) ⌝ }
-{
-    let mut count: usize = 0;
-    let mut i = 0;
-    while i < earlier.len() {
-        earlier[i] = count;
-        count += is_diverted(words, counts, i) as usize;
-        i += 1;
-    }
+    number_at(counts, then_of(words, i)) != 1
 }

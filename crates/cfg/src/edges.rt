@@ -5,15 +5,16 @@ ghost use mathlib.Core.Bool.{cond};
 ghost use mathlib.Core.List.{[], _∷_};
 ghost use lib.Dec.{ltb};
 ghost use lib.ListN.{length, getD, set};
-ghost use Rattle.lua51_deserializer.specs.Range.{only, times};
-ghost use Rattle.lua51_deserializer.specs.Proto.{Proto, size, flowAt};
-ghost use Rattle.cfg.specs.Graph.{plain-edge, then-edge, else-edge, leaving, exits, entering};
-ghost use Rattle.cfg.specs.Arrays.{table, leaders, edgesMeant, targets, entered};
+ghost use Rattle.basics.specs.Range.{only, times, table};
+ghost use Rattle.lua51_instruction.specs.Proto.{Proto, size, flowAt};
+ghost use Rattle.cfg.specs.Graph.{plain-edge, then-edge, else-edge, leaving};
+ghost use Rattle.cfg.specs.Arrays.{edgesMeant, targets, entered, exitsBy, enteringBy};
 use crate::flow::flow_of;
-use crate::flow::target_of;
-use crate::marks::mark_at;
-use lua51_deserializer::instruction::Flow;
-use lua51_deserializer::instruction::c_of;
+use crate::flow::landing;
+use crate::marks::marked;
+use basics::slices::clear_numbers;
+use lua51_instruction::instruction::Flow;
+use lua51_instruction::instruction::c_of;
 
 // The kinds of edges.
 pub const PLAIN: u8 = 0;
@@ -72,11 +73,11 @@ pub fn edges_at(words: &[u32], i: usize) -> Edges
             }
             plain(i + 2)
         }
-        Flow::Jump => plain(target_of(i, word)),
+        Flow::Jump => plain(landing(words, i)),
         Flow::Test => branch(i + 1, i + 2),
         Flow::TestSet => branch(i + 1, i + 2),
-        Flow::LoopEntry => plain(target_of(i, word)),
-        Flow::NumericLoop => branch(target_of(i, word), i + 1),
+        Flow::LoopEntry => plain(landing(words, i)),
+        Flow::NumericLoop => branch(landing(words, i), i + 1),
         Flow::GenericLoop => branch(i + 1, i + 2),
         Flow::Exit => Edges::None,
     }
@@ -85,9 +86,9 @@ pub fn edges_at(words: &[u32], i: usize) -> Edges
 // The edges that leave word i for another range: none where the next word starts none.
 fn exits_at(words: &[u32], marks: &[u8], i: usize) -> Edges
     requires { ⌜ i < length (now words) ⌝ }
-    ensures { λ r. ⌜ ((p : Proto) → p .words ≡ now (words .entry) → now (marks .entry) ≡ leaders p → (t : ℕ) → times t (targets r) ≡ exits p t i) ⌝ }
+    ensures { λ r. ⌜ ((p : Proto) → p .words ≡ now (words .entry) → (t : ℕ) → times t (targets r) ≡ exitsBy p (now (marks .entry)) t i) ⌝ }
 {
-    if mark_at(marks, i + 1) == 1 {
+    if marked(marks, i + 1) {
         return edges_at(words, i);
     }
     Edges::None
@@ -118,22 +119,11 @@ fn enter_all(counts: &mut [usize], edges: Edges)
     }
 }
 
-// Sets all numbers of an array to 0.
-pub fn clear(counts: &mut [usize])
-    ensures { λ _. ⌜ now (counts .exit) ≡ table (λ _. 0) (length (now (counts .entry))) ⌝ }
-{
-    let mut t = 0;
-    while t < counts.len() {
-        counts[t] = 0;
-        t += 1;
-    }
-}
-
 // Counts at each word the edges that enter the block whose range starts there, the entry's edge among them.
 pub fn count_entering(words: &[u32], marks: &[u8], counts: &mut [usize])
-    ensures { λ _. ⌜ ((p : Proto) → p .words ≡ now (words .entry) → now (marks .entry) ≡ leaders p → now (counts .exit) ≡ table (entering p) (length (now (counts .entry)))) ⌝ }
+    ensures { λ _. ⌜ ((p : Proto) → p .words ≡ now (words .entry) → now (counts .exit) ≡ table (enteringBy p (now (marks .entry))) (length (now (counts .entry)))) ⌝ }
 {
-    clear(counts);
+    clear_numbers(counts);
     enter(counts, 0);
     let mut i = 0;
     while i < words.len() {

@@ -1,15 +1,14 @@
 // Where a word leads: its flow and its jump target.
 ghost use mathlib.Core.Path.{_≡_};
-ghost use Prim.Native.Nat.{_+_, _-_, _<_, _^_};
-ghost use Rattle.lua51_deserializer.specs.Word.{fieldOpcode, fieldBx, rowOf, bias};
-ghost use Rattle.lua51_deserializer.specs.Instruction.{flowMeant};
-use lua51_deserializer::instruction::Flow;
-use lua51_deserializer::instruction::bx_of;
-use lua51_deserializer::instruction::opcode_of;
-use lua51_deserializer::instruction::row_of;
-
-// What is taken from Bx to give a signed offset.
-const BIAS: usize = 131071;
+ghost use Rattle.lua51_instruction.specs.Word.{fieldOpcode, rowOf};
+ghost use Rattle.lua51_instruction.specs.Instruction.{flowMeant};
+ghost use Rattle.lua51_instruction.specs.Proto.{Proto, target};
+use basics::slices::word_at;
+use lua51_instruction::instruction::Flow;
+use lua51_instruction::instruction::Target;
+use lua51_instruction::instruction::jump_target;
+use lua51_instruction::instruction::opcode_of;
+use lua51_instruction::instruction::row_of;
 
 // Where control goes behind a word.
 pub fn flow_of(word: u32) -> Flow
@@ -19,14 +18,13 @@ pub fn flow_of(word: u32) -> Flow
     row.flow
 }
 
-// The target of a jump that is word i, 0 where it would lie before the first word. A slice of words is shorter than 2^61.
-pub fn target_of(i: usize, word: u32) -> usize
-    requires { ⌜ i < 2 ^ 61 ⌝ }
-    ensures { λ r. ⌜ r ≡ i + 1 + fieldBx word - bias ⌝ }
+// The word that the jump at word i leads to; the word count in place of one outside.
+pub fn landing(words: &[u32], i: usize) -> usize
+    ensures { λ r. ⌜ ((p : Proto) → p .words ≡ now (words .entry) → r ≡ target p i) ⌝ }
 {
-    let reach = i + 1 + bx_of(word) as usize;
-    if reach < BIAS {
-        return 0;
+    let n = words.len();
+    match jump_target(i, n, word_at(words, i)) {
+        Target::To(t) => t,
+        Target::Outside => n,
     }
-    reach - BIAS
 }

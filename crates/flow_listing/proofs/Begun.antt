@@ -8,29 +8,27 @@ use native.Mathlib.Decide.{decLt}
 use native.Mathlib.Omega.{arith}
 use lib.ListN.{length, length-append, take, drop, getD, List·getD-append, List·getD-eq-default}
 use lib.Seq.{getD-at, take-at, length-take-le}
-use types.Run.{OneOf}
-use denote.Enum.Declared.{tagOf}
 use Rattle.io.specs.Counts.{Counts}
 use Rattle.lines.specs.Out.{Out, output, puts, largest-usize}
 use Rattle.lines.proofs.Puts.{puts-at, puts-length, puts-fit}
 use Rattle.lua51_deserializer.specs.Chunk.{here, walked, walk, protoAt, constantsAt, most-functions}
 use Rattle.lua51_deserializer.specs.Walked.{placesOf}
 use Rattle.lua51_deserializer.specs.declared.chunk.Functions.{Functions}
-use Rattle.lua51_deserializer.proofs.Places.{over-length, over-at}
+use Rattle.basics.proofs.Range.{over-length, over-at}
 use Rattle.lua51_lifter.specs.Check.{fine, check}
 use Rattle.lua51_lifter.specs.Listing.{listing}
 use Rattle.judging.specs.Judge.{given, judge, listingOf}
 use Rattle.judging.specs.Answers.{answerOf}
-use Rattle.judging.specs.Refusal.{refusalBy, refusedBy, refusalLine}
+use Rattle.judging.specs.Refusal.{refusalOf, refusalBy, refusalLine}
 use Rattle.judging.specs.declared.refusal.Refusal.{Refusal}
-use Rattle.judging.specs.declared.Answer.the-variants.{Given}
-use Rattle.judging.proofs.Answer.{the-type as answer-type}
+use Rattle.judging.specs.declared.refusal.Numbers.{Numbers}
+use Rattle.judging.specs.declared.Answer.the-variants.{Given, Refused}
 use Rattle.judging.proofs.Acceptance.{accepted, accepted-count, accepted-whole}
 use Rattle.judging.proofs.Judging.{count-whole, few-functions}
 use Rattle.reading.specs.Program.{buffer, pieces}
 use Rattle.flow_listing.specs.Run.{Listable, listingsBelow, lastOf, Begun}
 use Rattle.flow_listing.specs.declared.run.Run.{Run}
-use Rattle.flow_listing.proofs.Pieces.{refusals, refused-told, last-refused, last-short, pieces-sized}
+use Rattle.flow_listing.proofs.Pieces.{last-refused, last-short, pieces-sized}
 
 -- ------------------------------------------------------------ piece k
 
@@ -52,11 +50,11 @@ module _ (s : List ℕ) (run : Run) (k : ℕ) (begun : Begun s run) where
       rw (begun .pieces) (List·getD-append below last [] k among ∙ rw z at (over-at (listingOf s) 0 (run .whole) k [] h))
 
   -- the X line behind the listings
-  pub piece-refused : (x : Refusal) → OneOf refusals (tagOf answer-type (run .end)) → refusalBy x ≡ refusedBy (answerOf (run .end))
-      → k ≡ run .whole → getD (pieces s) k [] ≡ refusalLine (x .number) (x .function) (x .place)
-  piece-refused x tag e h =
-      let l = last-refused (answerOf (run .end)) x (refused-told (run .end) tag) e in
-      rw (begun .pieces, l, h) (getD-at below (refusalLine (x .number) (x .function) (x .place)) [] [] (run .whole) count)
+  pub piece-refused : (x : Refusal) (n : Numbers) → run .end ≡ Refused x → refusalBy n ≡ refusalOf x
+      → k ≡ run .whole → getD (pieces s) k [] ≡ refusalLine (n .number) (n .function) (n .place)
+  piece-refused x n r e h =
+      rw (begun .pieces, last-refused (run .end) x n r e, h)
+      (getD-at below (refusalLine (n .number) (n .function) (n .place)) [] [] (run .whole) count)
 
   past : run .whole + length last ≤ k → getD (pieces s) k [] ≡ []
   past h =

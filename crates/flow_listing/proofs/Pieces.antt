@@ -8,24 +8,19 @@ use native.Mathlib.Omega.{arith}
 use borrow.Author.Tests.{ltb-false, lt-ltb, le-ltb}
 use lib.Dec.{ltb}
 use lib.ListN.{length, length-append, length-replicate, getD}
-use types.Run.{OneOf, miss}
-use denote.Enum.Declared.{tagOf}
 use Rattle.lines.specs.Line.{digit, digits, decimal, column, line}
-use Rattle.lua51_deserializer.specs.Range.{over, only}
-use Rattle.lua51_deserializer.specs.Chunk.{Read, here, refused}
-use Rattle.lua51_deserializer.specs.Cursor.{readOf}
-use Rattle.lua51_deserializer.proofs.Range.{over-split}
-use Rattle.lua51_lifter.specs.Check.{Verdict, fine, wrong}
+use Rattle.basics.specs.Range.{over, only}
+use Rattle.basics.proofs.Range.{over-split}
 use Rattle.lua51_lifter.specs.Listing.{listing}
-use Rattle.lua51_uses.specs.Judgement.{verdictOf}
 use Rattle.judging.specs.Judge as judge
-use Rattle.judging.specs.Judge.{given, refusal, judged, listingOf}
-use Rattle.judging.specs.Answers.{answerOf, chunkRefusal}
-use Rattle.judging.specs.Refusal.{refusalBy, refusedBy, refusalLine}
+use Rattle.judging.specs.Judge.{given, refusal, listingOf}
+use Rattle.judging.specs.Refusal.{refusalOf, refusalBy, refusalLine}
+use Rattle.judging.specs.Answers.{answerOf}
 use Rattle.judging.specs.declared.refusal.Refusal.{Refusal}
+use Rattle.judging.specs.declared.refusal.Numbers.{Numbers}
 use Rattle.judging.specs.declared.Answer.{Answer}
-use Rattle.judging.specs.declared.Answer.the-variants.{Given, Chunk, Function, NotOpened, NoFunction, OutputShort}
-use Rattle.judging.proofs.Answer.{the-type as answer-type}
+use Rattle.judging.specs.declared.Answer.the-variants.{Refused}
+use Rattle.judging.proofs.Refusals.{refused}
 use Rattle.reading.specs.Program.{buffer, listings, piecesFor, pieces}
 use Rattle.flow_listing.specs.Run.{listingsBelow, lastOf}
 
@@ -66,45 +61,15 @@ module _ (s : List ℕ) (n f : ℕ) where
 
 -- ------------------------------------------------------------ a refused one
 
--- the tags of the refusals
-abbrev pub refusals : List ℕ
-refusals = 1 ∷ 2 ∷ 3 ∷ 4 ∷ 5 ∷ []
-
--- an answer that is a refusal
-pub record Refused (a : judge.Answer) : Type 0 where
-  pub number : ℕ
-  pub function : ℕ
-  pub place : ℕ
-  pub same : a ≡ refusal number function place
-
-abbrev refused-as : (n f p : ℕ) → Refused (refusal n f p)
-refused-as n f p = record { number = n; function = f; place = p; same = refl }
-
-of-chunk : (r : Read) → Refused (chunkRefusal r)
-of-chunk (here i) = refused-as 0 0 0
-of-chunk (refused n p) = refused-as n 0 p
-
-of-function : (f : ℕ) (v : Verdict) → Refused (judged f v (refusal 0 f 0))
-of-function f fine = refused-as 0 f 0
-of-function f (wrong n p) = refused-as n f p
-
--- an answer that gives nothing is a refusal
-pub refused-told : (a : Answer) → OneOf refusals (tagOf answer-type a) → Refused (answerOf a)
-refused-told (Given n) h = absurd (miss refusals 0 tt h)
-refused-told (Chunk c) h = of-chunk (readOf c)
-refused-told (Function f v) h = of-function f (verdictOf v)
-refused-told (NotOpened f) h = refused-as 31 f 0
-refused-told (NoFunction f) h = refused-as 32 f 0
-refused-told (OutputShort f) h = refused-as 33 f 0
-
-pub pieces-refused : (s : List ℕ) (a : judge.Answer) → a ≡ judge.judge s → Refused a → pieces s ≡ listingsBelow s 0 ++ lastOf a
+pub pieces-refused : (s : List ℕ) (a : Answer) (x : Refusal) → answerOf a ≡ judge.judge s → a ≡ Refused x
+    → pieces s ≡ listingsBelow s 0 ++ lastOf (answerOf a)
 unfolding pieces piecesFor over
-pieces-refused s a e r = rw (← e, r .same)
+pieces-refused s a x e h = rw (← e, h, refused x .is)
 
--- its X line is that of the refusal's number, function and place
-pub last-refused : (a : judge.Answer) (x : Refusal) → Refused a → refusalBy x ≡ refusedBy a
-    → lastOf a ≡ refusalLine (x .number) (x .function) (x .place) ∷ []
-last-refused a x r e = rw (r .same) (sym (ap lastOf (rw (r .same) at e)))
+-- its X line is that of the refusal's numbers
+pub last-refused : (a : Answer) (x : Refusal) (n : Numbers) → a ≡ Refused x → refusalBy n ≡ refusalOf x
+    → lastOf (answerOf a) ≡ refusalLine (n .number) (n .function) (n .place) ∷ []
+last-refused a x n h e = rw h (sym (ap lastOf e))
 
 -- at most one piece stands behind the listings
 pub last-short : (a : judge.Answer) → length (lastOf a) ≤ 1

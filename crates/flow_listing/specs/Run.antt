@@ -2,7 +2,7 @@
 use Prim.Native.Nat.{ℕ, _<_}
 use mathlib.Core.List.{List, [], _∷_, _++_}
 use mathlib.Core.Path.{_≡_}
-use Rattle.lua51_deserializer.specs.Range.{over, only}
+use Rattle.basics.specs.Range.{over, only}
 use Rattle.lua51_deserializer.specs.Chunk.{walk}
 use Rattle.lua51_deserializer.specs.Walked.{placesOf}
 use Rattle.lua51_deserializer.specs.declared.chunk.Functions.{Functions}

@@ -1,10 +1,12 @@
 // The pieces of the listing program's output: the listings of a chunk's functions, or one line X (document 01, 'Printed lines').
 use judging::Answer;
+use judging::refusal::Refusal;
+use judging::refusal::numbers_of;
 use judging::refusal::put_refusal;
-use judging::refusal::refusal_of;
 use judging::walk_and_judge;
 use listing::function::put_function;
 use lua51_deserializer::chunk::Functions;
+use reading::PROGRAM_BUFFER;
 ghost use Prim.Native.Nat.{_≤_, min};
 ghost use mathlib.Core.List.{[]};
 ghost use mathlib.Core.Path.{_≡_};
@@ -16,9 +18,6 @@ ghost use Rattle.lua51_deserializer.specs.Walked.{placesOf};
 ghost use Rattle.judging.specs.Judge.{given, judge, listingOf};
 ghost use Rattle.reading.specs.Program.{buffer, pieces};
 ghost use Rattle.flow_listing.specs.Run.{Begun, Listable};
-
-// 'Its output buffer is 65,536 bytes'.
-const BUFFER: usize = 65536;
 
 // A run over an input: the input's functions, how many of their listings are printed whole, and what ends the run behind them,
 // a refusal or, where all are printed, the count of functions.
@@ -44,11 +43,11 @@ fn measure(s: &[u8], functions: Functions, count: usize) -> Run
 {
     let mut f: u32 = 0;
     while (f as usize) < count {
-        if BUFFER < listing_length(s, functions, f) {
+        if PROGRAM_BUFFER < listing_length(s, functions, f) {
             return Run {
                 functions,
                 whole: f as usize,
-                end: Answer::OutputShort(f),
+                end: Answer::Refused(Refusal::OutputShort(f)),
             };
         }
         f += 1;
@@ -94,8 +93,8 @@ pub fn put_piece(out: &mut [u8], s: &[u8], run: Run, k: usize) -> usize
     if whole < k {
         return 0;
     }
-    let Answer::Given(_) = end else {
-        return put_refusal(out, 0, refusal_of(end));
-    };
+    if let Answer::Refused(refusal) = end {
+        return put_refusal(out, 0, numbers_of(refusal));
+    }
     0
 }

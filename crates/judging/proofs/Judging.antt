@@ -1,38 +1,30 @@
 -- Laws by which the code judges a chunk: its functions one after the other, and each in the buffers. Assumes nothing.
 use mathlib.Core.Path.{_≡_, refl, sym, _∙_, ap, subst}
-use mathlib.Core.List.{List, _∷_, []}
+use mathlib.Core.List.{List}
 use Prim.Native.Nat.{ℕ, suc, _+_, _-_, _≤_, _<_}
 use native.Mathlib.Omega.{arith}
 use lib.ListN.{length, take}
-use types.Run.{OneOf}
-use denote.Enum.Declared.{tagOf}
 use Rattle.lua51_deserializer.specs.Chunk.{here, Place, Walk, walk, protoAt, most, most-words, most-functions}
 use Rattle.lua51_function.specs.Function.{Stands, heldOf, Loads, Holds}
-use Rattle.lua51_deserializer.specs.Proto.{Proto, size}
 use Rattle.lua51_deserializer.specs.Walked.{placesOf, walkOf}
 use Rattle.lua51_deserializer.specs.declared.chunk.Functions.{Functions}
 use Rattle.lua51_deserializer.specs.declared.chunk.Walked.{Walked}
-use Rattle.lua51_deserializer.specs.declared.fields.Cursor.the-variants.{Here}
+use Rattle.lua51_deserializer.specs.declared.fields.Cursor.the-variants.{Here, Refused}
+use Rattle.lua51_deserializer.specs.declared.fields.ChunkFault.{ChunkFault}
 use Rattle.lua51_function.specs.declared.function.Loaded.{Loaded}
-use Rattle.lua51_deserializer.proofs.Cursor.{refusals, refusal as refusal-of}
 use Rattle.lua51_deserializer.proofs.Places.{places-length}
 use Rattle.lua51_function.proofs.Buffers.{filled-length}
 use Rattle.lua51_function.proofs.WholeChunk.{whole-chunk}
 use Rattle.lua51_function.proofs.WholeFunction.{holds-each}
-use Rattle.lua51_deserializer.proofs.fields.Cursor.{the-type}
-use Rattle.cfg.specs.Arrays.{table, mark}
-use Rattle.cfg.specs.Graph.{leader}
-use Rattle.cfg.proofs.Tables.{table-at}
-use Rattle.lua51_lifter.specs.Check.{Verdict, fine, wrong, _else_, check}
-use Rattle.lua51_reach.specs.Targets.{Marked}
-use Rattle.lua51_uses.specs.Judgement.{verdictOf}
-use Rattle.lua51_uses.specs.declared.verdict.Verdict as found
-use Rattle.lua51_uses.specs.declared.verdict.Verdict.the-variants.{Fine}
-use Rattle.lua51_uses.proofs.FirstRefusal.{refuses}
-use Rattle.lua51_uses.proofs.verdict.Verdict.{the-type as verdict-type}
-use Rattle.judging.specs.Judge.{Answer, given, refusal, judged, judgeFrom, judgeRead, judge}
-use Rattle.judging.specs.Answers.{answerOf, Whole, Ready}
-use Rattle.judging.specs.declared.Answer.the-variants.{Chunk, Function}
+use Rattle.lua51_lifter.specs.Check.{check}
+use Rattle.lua51_lifter.specs.Verdict.{verdictOf}
+use Rattle.lua51_lifter.specs.declared.verdict.Verdict as found
+use Rattle.lua51_lifter.specs.declared.verdict.Verdict.the-variants.{Fine, Refused as Wrong}
+use Rattle.lua51_lifter.specs.declared.verdict.FunctionFault.{FunctionFault}
+use Rattle.judging.specs.Judge.{Answer, given, judged, judgeFrom, judgeRead, judge}
+use Rattle.judging.specs.Refusal.{refusalOf}
+use Rattle.judging.specs.Answers.{Whole, Ready}
+use Rattle.judging.specs.declared.refusal.Refusal.the-variants.{Chunk, Function}
 
 -- ------------------------------------------------------------ a chunk that was read whole
 
@@ -71,11 +63,9 @@ module _ {s : List ℕ} {functions : Functions} {f : ℕ} {r : Loaded} {ws ws′
 
 module _ (s : List ℕ) (w : Walked) (e : walkOf w ≡ walk s) where
   -- where it ends in a refusal, that is the judgement
-  pub judge-refused : OneOf refusals (tagOf the-type (w .cursor)) → answerOf (Chunk (w .cursor)) ≡ judge s
+  pub judge-refused : (fault : ChunkFault) → w .cursor ≡ Refused fault → refusalOf (Chunk fault) ≡ judge s
   unfolding judge judgeRead
-  judge-refused h =
-      let (n, p, q) = refusal-of (w .cursor) h in
-      rw (sym (ap (λ (v : Walk). v .read) e) ∙ q) (rw q)
+  judge-refused fault h = rw (← ap (λ (v : Walk). v .read) e, h)
 
   pub places-of : placesOf (w .functions) ≡ walk s .places
   places-of = ap (λ (v : Walk). v .places) e
@@ -84,11 +74,6 @@ module _ (s : List ℕ) (w : Walked) (e : walkOf w ≡ walk s) where
   whole-of at h = record { end = at; walk = rw h at e }
 
 -- ------------------------------------------------------------ one function after the other
-
--- the answer for the functions behind one that is refused does not matter
-refused-alike : (f : ℕ) (v : Verdict) (a b : Answer) → v else wrong 0 0 ≡ v → judged f v a ≡ judged f v b
-refused-alike f fine a b e = let z : _≡_ {A = ℕ} 0 1 = cc in absurd (omega arith)
-refused-alike f (wrong n p) a b e = refl
 
 -- of n functions those before f are accepted; v is what was found in f
 module _ (s : List ℕ) (ps : List Place) (n f : ℕ) (v : found.Verdict) (below : f < n) (e : verdictOf v ≡ check (protoAt s ps f)) where
@@ -99,8 +84,8 @@ module _ (s : List ℕ) (ps : List Place) (n f : ℕ) (v : found.Verdict) (below
   unfolding judgeFrom
   judge-turn = let m : n - f ≡ suc (n - (f + 1)) = omega arith in rw (m, e)
 
-  pub function-refused : OneOf (1 ∷ 2 ∷ 3 ∷ 4 ∷ 5 ∷ 6 ∷ 7 ∷ 8 ∷ []) (tagOf verdict-type v) → answerOf (Function f v) ≡ judgeFrom s ps f (n - f)
-  function-refused h = refused-alike f (verdictOf v) (refusal 0 f 0) rest (refuses v (wrong 0 0) h) ∙ sym judge-turn
+  pub function-refused : (fault : FunctionFault) → v ≡ Wrong fault → refusalOf (Function f fault) ≡ judgeFrom s ps f (n - f)
+  function-refused fault h = sym (judge-turn ∙ rw h)
 
   pub function-passed : v ≡ Fine → rest ≡ judgeFrom s ps f (n - f)
   function-passed h = sym (judge-turn ∙ rw h)
@@ -110,11 +95,6 @@ pub functions-passed : (s : List ℕ) (ps : List Place) (n f : ℕ) → n ≤ f 
 unfolding judgeFrom
 functions-passed s ps n f h = let z : n - f ≡ 0 = omega arith in rw z
 
--- ------------------------------------------------------------ the marks of a function's leaders
-
-pub leaders-marked : (p : Proto) (marks : List ℕ) (n : ℕ) → size p < n → marks ≡ table (mark p) n → Marked (leader p) (size p) marks
-leaders-marked p marks n below h j l = rw h (table-at (mark p) n j (omega arith))
-
 -- ------------------------------------------------------------ the buffers
 
 -- each buffer is as long as it was made
@@ -122,6 +102,6 @@ pub record Buffers (ws ks ns us ls ts : List ℕ) : Type 0 where
   pub words : most-words ≡ length ws
   pub kinds : most ≡ length ks
   pub nested : most-functions ≡ length ns
-  pub captured : most-functions ≡ length us
+  pub nups : most-functions ≡ length us
   pub leaders : most-words + 1 ≡ length ls
   pub targets : most-words + 1 ≡ length ts

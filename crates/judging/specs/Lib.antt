@@ -1,3 +1,3 @@
 pub mod Judge
-pub mod Answers
 pub mod Refusal
+pub mod Answers

@@ -1,73 +1,36 @@
 // Judging a chunk: its bytes, then its functions.
-pub mod refusal; // a refusal's number, function and place, and its line
+pub mod refusal; // refusals, their numbers and their line
 
-use cfg::marks::mark_leaders;
+use crate::refusal::Refusal;
 use lua51_checker::check::check;
 use lua51_deserializer::chunk::Functions;
 use lua51_deserializer::chunk::walk;
 use lua51_deserializer::fields::Cursor;
-use lua51_function::function::Head;
+use lua51_function::function::MOST_CONSTANTS;
+use lua51_function::function::MOST_MARKS;
+use lua51_function::function::MOST_NESTED;
+use lua51_function::function::MOST_WORDS;
 use lua51_function::function::function_at;
-use lua51_uses::verdict::Verdict;
+use lua51_lifter::verdict::Verdict;
 ghost use mathlib.Core.Path.{_≡_};
-ghost use Prim.Native.Nat.{_<_};
-ghost use lib.ListN.{length};
-ghost use Rattle.lua51_deserializer.specs.Proto.{Proto, size};
-ghost use Rattle.lua51_function.specs.Function.{Stands};
 ghost use Rattle.lua51_deserializer.specs.Chunk.{walk, protoAt};
 ghost use Rattle.lua51_deserializer.specs.Walked.{placesOf};
 ghost use Rattle.lua51_lifter.specs.Check.{check};
-ghost use Rattle.lua51_uses.specs.Judgement.{verdictOf};
+ghost use Rattle.lua51_lifter.specs.Verdict.{verdictOf};
 ghost use Rattle.judging.specs.Judge.{judge};
 ghost use Rattle.judging.specs.Answers.{answerOf, Whole, Ready};
 
 // What judging, opening and delivering answer.
 pub enum Answer {
-    // The chunk is accepted: how many functions it has; of a delivery, how long the listing is.
+    // How many functions the chunk has; of a delivery, how long the listing is.
     Given(usize),
-    // 1 to 6: the chunk is refused where its reading ended.
-    Chunk(Cursor),
-    // 7 to 14: a function is refused, by its number, for the first fault in it.
-    Function(u32, Verdict),
-    // 31: the reading is not opened. Here and in the two below: with the reading's next function.
-    NotOpened(u32),
-    // 32: the next function is not below the chunk's count.
-    NoFunction(u32),
-    // 33: the output is shorter than the listing.
-    OutputShort(u32),
+    Refused(Refusal),
 }
 
 // What judging a chunk gives: its judgement, and where its functions stand.
 pub struct Judged {
     pub answer: Answer,
     pub functions: Functions,
-}
-
-// Room for the largest function: its words, its constants, and the functions that can be nested in it; and for the marks of its
-// words, with one behind the last.
-const MOST_WORDS: usize = 8192;
-
-const MOST_CONSTANTS: usize = 65536;
-
-const MOST_NESTED: usize = 256;
-
-const MOST_MARKS: usize = 8193;
-
-// The verdict on a function, by its head and its lists. The marks of its leaders, and of its jump targets and skips, are put into
-// what is lent for them.
-fn check_loaded(
-    head: Head,
-    words: &[u32],
-    kinds: &[u8],
-    nested: &[u32],
-    captured: &[u8],
-    leaders: &mut [u8],
-    targets: &mut [u8],
-) -> Verdict
-    ensures { λ r. ⌜ ((p : Proto) → Stands p head (now (words .entry)) (now (kinds .entry)) (now (nested .entry)) (now (captured .entry)) → size p < length (now (leaders .entry)) → size p < length (now (targets .entry)) → verdictOf r ≡ check p) ⌝ }
-{
-    mark_leaders(words, leaders);
-    check(head, words, kinds, nested, captured, leaders, targets)
 }
 
 // The verdict on function f of a chunk. Its lists and the marks of its words are put into what is lent.
@@ -78,24 +41,24 @@ fn check_function(
     words: &mut [u32],
     kinds: &mut [u8],
     nested: &mut [u32],
-    captured: &mut [u8],
+    nups: &mut [u8],
     leaders: &mut [u8],
     targets: &mut [u8],
 ) -> Verdict
-    requires { ⌜ Ready (now s) functions f (now words) (now kinds) (now nested) (now captured) (now leaders) (now targets) ⌝ }
+    requires { ⌜ Ready (now s) functions f (now words) (now kinds) (now nested) (now nups) (now leaders) (now targets) ⌝ }
     ensures { λ r. ⌜ verdictOf r ≡ check (protoAt (now (s .entry)) (walk (now (s .entry)) .places) f) ⌝ }
 {
-    let loaded = function_at(s, functions, f, words, kinds, nested, captured);
+    let loaded = function_at(s, functions, f, words, kinds, nested, nups);
     let n = loaded.words;
     let constants = loaded.kinds;
     let inner = loaded.nested;
     let marks = n + 1;
-    check_loaded(
+    check(
         loaded.head,
         &words[..n],
         &kinds[..constants],
         &nested[..inner],
-        &captured[..inner],
+        &nups[..inner],
         &mut leaders[..marks],
         &mut targets[..marks],
     )
@@ -109,7 +72,7 @@ fn judge_functions(s: &[u8], functions: Functions) -> Answer
     let mut words = [0u32; MOST_WORDS];
     let mut kinds = [0u8; MOST_CONSTANTS];
     let mut nested = [0u32; MOST_NESTED];
-    let mut captured = [0u8; MOST_NESTED];
+    let mut nups = [0u8; MOST_NESTED];
     let mut leaders = [0u8; MOST_MARKS];
     let mut targets = [0u8; MOST_MARKS];
     let count = functions.count;
@@ -122,13 +85,13 @@ fn judge_functions(s: &[u8], functions: Functions) -> Answer
             &mut words,
             &mut kinds,
             &mut nested,
-            &mut captured,
+            &mut nups,
             &mut leaders,
             &mut targets,
         );
-        let Verdict::Fine = verdict else {
-            return Answer::Function(f, verdict);
-        };
+        if let Verdict::Refused(fault) = verdict {
+            return Answer::Refused(Refusal::Function(f, fault));
+        }
         f += 1;
     }
     Answer::Given(count)
@@ -142,12 +105,12 @@ pub fn walk_and_judge(s: &[u8]) -> Judged
     let walked = walk(s);
     let cursor = walked.cursor;
     let functions = walked.functions;
-    let Cursor::Here(_) = cursor else {
+    if let Cursor::Refused(fault) = cursor {
         return Judged {
-            answer: Answer::Chunk(cursor),
+            answer: Answer::Refused(Refusal::Chunk(fault)),
             functions,
         };
-    };
+    }
     Judged {
         answer: judge_functions(s, functions),
         functions,

@@ -1,4 +1,2 @@
-pub mod Edges
 pub mod BlockLines
-pub mod Noting
 pub mod Loading

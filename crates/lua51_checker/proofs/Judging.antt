@@ -1,10 +1,13 @@
--- Laws of the verdict on a word by itself. Assumes nothing.
-use Prim.Native.Nat.{ℕ, _+_}
+-- Laws of the verdict on a word by itself, and of the numbers and places of verdicts. Assumes nothing.
+use Prim.Native.Nat.{ℕ, zero, suc, _+_, _-_, _≤_, _<_}
+use native.Mathlib.Omega.{arith}
 use mathlib.Core.Bool.{Bool, true, false, not, _&&_}
 use mathlib.Core.Path.{_≡_, sym, _∙_}
-use Rattle.lua51_deserializer.specs.Word.{JMP}
-use Rattle.lua51_deserializer.specs.Proto.{Proto, is, flowAt}
-use Rattle.lua51_lifter.specs.Check.{tests, operandFault, landsInside, wordVerdict, fine, wrong}
+use Rattle.lua51_instruction.specs.Word.{JMP}
+use Rattle.lua51_instruction.specs.Proto.{Proto, size, is, flowAt}
+use Rattle.lua51_lifter.specs.Check.{tests, headFault, lastFault, operandFault, landsInside, wordVerdict, Verdict, fine, wrong, refuseIf, _else_, firstRefusal}
+use Rattle.lua51_lifter.specs.Verdict.{Found}
+use Rattle.lua51_uses.specs.Judgement.{checkWords}
 
 module _ (p : Proto) (i : ℕ) {operands : Bool} (o : operands ≡ operandFault p i) where
   pub operand-outside : operands ≡ true → wrong 9 i ≡ wordVerdict p i
@@ -24,3 +27,43 @@ module _ (p : Proto) (i : ℕ) {operands : Bool} (o : operands ≡ operandFault 
       pub word-right : lone ≡ false → lone ≡ (tests (flowAt p i) && not (is p (i + 1) JMP)) → fine ≡ wordVerdict p i
       unfolding wordVerdict
       word-right m t = rw (sym o ∙ h, sym l, n, sym t ∙ m)
+
+-- ------------------------------------------------------------ numbers and places
+
+module _ (least most n : ℕ) where
+  found-else : (v w : Verdict) → Found least most n v → Found least most n w → Found least most n (v else w)
+  found-else fine w h g = g
+  found-else (wrong k i) w h g = h
+
+  found-fault : (fault : Bool) (k i : ℕ) → least ≤ k → k ≤ most → i ≤ n - 1 → Found least most n (refuseIf fault k i)
+  found-fault true k i a b c = (a, b, c)
+  found-fault false k i a b c = tt
+
+  found-first : (f : ℕ → Verdict) → ((i : ℕ) → i < n → Found least most n (f i)) → (from count : ℕ) → from + count ≤ n
+      → Found least most n (firstRefusal f from count)
+  unfolding firstRefusal
+  found-first f g from zero h = tt
+  found-first f g from (suc count) h = found-else (f from) (firstRefusal f (from + 1) count) (g from (omega arith)) (found-first f g (from + 1) count (omega arith))
+
+  -- within wider bounds
+  pub found-more : (less more : ℕ) (v : Verdict) → less ≤ least → most ≤ more → Found least most n v → Found less more n v
+  found-more less more fine a b h = tt
+  found-more less more (wrong k i) a b h = (omega arith, omega arith, h .2)
+
+module _ (p : Proto) where
+  fault : (b : Bool) (k i : ℕ) → 7 ≤ k → k ≤ 11 → i ≤ size p - 1 → Found 7 11 (size p) (refuseIf b k i)
+  fault = found-fault 7 11 (size p)
+
+  of-word : (i : ℕ) → i < size p → Found 7 11 (size p) (wordVerdict p i)
+  unfolding wordVerdict
+  of-word i h =
+      found-else 7 11 (size p) (refuseIf (operandFault p i) 9 i) _ (fault (operandFault p i) 9 i (omega arith) (omega arith) (omega arith))
+      (found-else 7 11 (size p) (refuseIf (not (landsInside p i (flowAt p i))) 10 i) _ (fault (not (landsInside p i (flowAt p i))) 10 i (omega arith) (omega arith) (omega arith))
+      (fault (tests (flowAt p i) && not (is p (i + 1) JMP)) 11 i (omega arith) (omega arith) (omega arith)))
+
+  -- 7 to 11 are at one of the words, or at 0
+  pub found-words : Found 7 11 (size p) (checkWords p)
+  found-words =
+      found-else 7 11 (size p) (refuseIf (headFault p) 7 0) _ (fault (headFault p) 7 0 (omega arith) (omega arith) (omega arith))
+      (found-else 7 11 (size p) (refuseIf (lastFault p) 8 (size p - 1)) _ (fault (lastFault p) 8 (size p - 1) (omega arith) (omega arith) (omega arith))
+      (found-first 7 11 (size p) (wordVerdict p) of-word 0 (size p) (omega arith)))

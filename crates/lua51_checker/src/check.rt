@@ -5,26 +5,27 @@ ghost use mathlib.Core.List.{List};
 ghost use Prim.Native.Nat.{ℕ, _+_, _-_, _/_, _%_, _<_};
 ghost use lib.Dec.{eqb};
 ghost use lib.ListN.{length};
-ghost use Rattle.lua51_deserializer.specs.Proto.{Proto, size};
+ghost use Rattle.lua51_instruction.specs.Proto.{Proto, size};
 ghost use Rattle.lua51_function.specs.Function.{Stands};
-ghost use Rattle.cfg.specs.Graph.{leader};
-ghost use Rattle.lua51_lifter.specs.Check.{headFault, lastFault, wordVerdict, firstRefusal, fine, check};
-ghost use Rattle.lua51_reach.specs.Targets.{Marked};
-ghost use Rattle.lua51_uses.specs.Judgement.{verdictOf, checkWords};
-use lua51_deserializer::instruction::decode;
-use lua51_deserializer::instruction::opcode_of;
+ghost use Rattle.lua51_lifter.specs.Check.{headFault, lastFault, wordVerdict, firstRefusal, check};
+ghost use Rattle.lua51_lifter.specs.Verdict.{verdictOf, Found};
+ghost use Rattle.lua51_uses.specs.Judgement.{checkWords};
+use basics::numbers::before;
+use basics::slices::word_after;
+use basics::slices::word_at;
 use lua51_function::function::Head;
+use lua51_instruction::instruction::decode;
+use lua51_instruction::instruction::opcode_of;
+use lua51_instruction::op::JMP;
+use lua51_instruction::op::RETURN;
+use lua51_lifter::verdict::FunctionFault;
+use lua51_lifter::verdict::Verdict;
 use lua51_operands::operands::has_arg;
 use lua51_operands::operands::needs_arg;
 use lua51_operands::operands::operand_fault;
-use lua51_operands::words::JMP;
-use lua51_operands::words::RETURN;
-use lua51_operands::words::word_at;
-use lua51_operands::words::word_behind;
 use lua51_reach::reach::asks;
 use lua51_reach::reach::lands_inside;
 use lua51_uses::uses::check_uses;
-use lua51_uses::verdict::Verdict;
 
 // ------------------------------------------------------------ 7 and 8: the function's head
 
@@ -43,7 +44,7 @@ fn parameter_registers(head: Head) -> u32
 }
 
 // Whether a function's head contradicts itself or its words.
-pub fn head_fault(head: Head, words: &[u32]) -> bool
+fn head_fault(head: Head, words: &[u32]) -> bool
     ensures { λ r. ⌜ ((p : Proto) (ks ns us : List ℕ) → Stands p head (now (words .entry)) ks ns us → r ≡ headFault p) ⌝ }
 {
     let flags = head.flags;
@@ -56,7 +57,7 @@ pub fn head_fault(head: Head, words: &[u32]) -> bool
 }
 
 // Whether there are no words, or the last is not RETURN.
-pub fn last_fault(words: &[u32]) -> bool
+fn last_fault(words: &[u32]) -> bool
     ensures { λ r. ⌜ ((p : Proto) → p .words ≡ now (words .entry) → r ≡ lastFault p) ⌝ }
 {
     let n = words.len();
@@ -69,28 +70,28 @@ pub fn last_fault(words: &[u32]) -> bool
 // ------------------------------------------------------------ 9 to 11: each word by itself
 
 // The verdict on word i by itself: its operands, then its targets and skips, then the jump behind a test.
-pub fn word_verdict(head: Head, words: &[u32], kinds: &[u8], nested: &[u32], i: usize) -> Verdict
+fn word_verdict(head: Head, words: &[u32], kinds: &[u8], nested: &[u32], i: usize) -> Verdict
     ensures { λ r. ⌜ ((p : Proto) (us : List ℕ) → Stands p head (now (words .entry)) (now (kinds .entry)) (now (nested .entry)) us → verdictOf r ≡ wordVerdict p i) ⌝ }
 {
     let instruction = decode(word_at(words, i));
     let row = instruction.row;
     let flow = row.flow;
     let outside = operand_fault(instruction, head, kinds, nested);
-    let lands = lands_inside(flow, words, i, instruction.c);
+    let lands = lands_inside(flow, words, i);
     if outside {
-        return Verdict::Operand(i);
+        return Verdict::Refused(FunctionFault::Operand(i));
     }
     if !lands {
-        return Verdict::Target(i);
+        return Verdict::Refused(FunctionFault::Target(i));
     }
-    if asks(flow) & (opcode_of(word_behind(words, i)) != JMP) {
-        return Verdict::Jump(i);
+    if asks(flow) & (opcode_of(word_after(words, i)) != JMP) {
+        return Verdict::Refused(FunctionFault::Jump(i));
     }
     Verdict::Fine
 }
 
 // The first verdict on a word by itself that is not fine.
-pub fn words_verdict(head: Head, words: &[u32], kinds: &[u8], nested: &[u32]) -> Verdict
+fn words_verdict(head: Head, words: &[u32], kinds: &[u8], nested: &[u32]) -> Verdict
     ensures { λ r. ⌜ ((p : Proto) (us : List ℕ) → Stands p head (now (words .entry)) (now (kinds .entry)) (now (nested .entry)) us → verdictOf r ≡ firstRefusal (wordVerdict p) 0 (size p)) ⌝ }
 {
     let mut i = 0;
@@ -106,45 +107,36 @@ pub fn words_verdict(head: Head, words: &[u32], kinds: &[u8], nested: &[u32]) ->
 
 // ------------------------------------------------------------ all of them
 
-// The place of refusal 8 among n words.
-fn last_place(n: usize) -> usize
-    ensures { λ r. ⌜ r ≡ n - 1 ⌝ }
-{
-    if n == 0 {
-        return 0;
-    }
-    n - 1
-}
-
 // The verdict on a function's head, and on each of its words by itself.
-pub fn check_words(head: Head, words: &[u32], kinds: &[u8], nested: &[u32]) -> Verdict
+fn check_words(head: Head, words: &[u32], kinds: &[u8], nested: &[u32]) -> Verdict
     ensures { λ r. ⌜ ((p : Proto) (us : List ℕ) → Stands p head (now (words .entry)) (now (kinds .entry)) (now (nested .entry)) us → verdictOf r ≡ checkWords p) ⌝ }
 {
     if head_fault(head, words) {
-        return Verdict::Head;
+        return Verdict::Refused(FunctionFault::Head);
     }
     if last_fault(words) {
-        return Verdict::Last(last_place(words.len()));
+        return Verdict::Refused(FunctionFault::Last(before(words.len())));
     }
     words_verdict(head, words, kinds, nested)
 }
 
-// The verdict on a function. Its leaders, up to one past its words, are marked by 1, unless `check_words` finds a fault; as many
-// places are lent for the marks of jump targets and skips.
+// The verdict on a function. The marks of its leaders, and of its jump targets and skips, are put into what is lent for them, one
+// for each word and one behind the last. Whatever is lent, a fault is one of 7 to 14, at one of the words or at 0.
 pub fn check(
     head: Head,
     words: &[u32],
     kinds: &[u8],
     nested: &[u32],
-    captured: &[u8],
-    leaders: &[u8],
+    nups: &[u8],
+    leaders: &mut [u8],
     targets: &mut [u8],
 ) -> Verdict
-    ensures { λ r. ⌜ ((p : Proto) → Stands p head (now (words .entry)) (now (kinds .entry)) (now (nested .entry)) (now (captured .entry)) → (checkWords p ≡ fine → Marked (leader p) (size p) (now (leaders .entry))) → size p < length (now (targets .entry)) → verdictOf r ≡ check p) ⌝ }
+    ensures { λ r. ⌜ ((p : Proto) → Stands p head (now (words .entry)) (now (kinds .entry)) (now (nested .entry)) (now (nups .entry)) → size p < length (now (leaders .entry)) → size p < length (now (targets .entry)) → verdictOf r ≡ check p) ⌝ }
+    ensures anyway { λ r. ⌜ Found 7 14 (length (now (words .entry))) (verdictOf r) ⌝ }
 {
     let verdict = check_words(head, words, kinds, nested);
     let Verdict::Fine = verdict else {
         return verdict;
     };
-    check_uses(words, captured, leaders, targets)
+    check_uses(words, nups, leaders, targets)
 }

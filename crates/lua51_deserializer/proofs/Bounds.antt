@@ -7,7 +7,8 @@ use native.Mathlib.Omega.{arith}
 use borrow.Author.Tests.{leb-true}
 use lib.Dec.{leb, ltb, eqb}
 use lib.ListN.{length}
-use Rattle.lua51_deserializer.specs.Chunk.{Read, here, refused, _then_, again, byteAt, intAt, field, limited}
+use Rattle.lua51_deserializer.specs.Chunk.{Read, here, refused, _then_, again, field, limited}
+use Rattle.lua51_value.specs.Bytes.{byteAt, intAt}
 use Rattle.lua51_deserializer.specs.Chunk.{byteTo, countTo, counted, body, string, present, constantOf, constant}
 use Rattle.lua51_deserializer.specs.Chunk.{head, code, constants, lines, locals, names, Place, Walk, walked}
 use Rattle.lua51_deserializer.specs.Chunk.{_next_, many, begin, nest, finish, function, exactly, signature, most}

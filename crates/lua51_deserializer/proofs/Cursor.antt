@@ -10,41 +10,15 @@ use borrow.Author.Tests.{leb-true, leb-false, le-leb, lt-leb}
 use lib.Dec.{leb}
 use lib.ListN.{length, drop, getD, drop-of-length-le}
 use lib.Seq.{drop-cons}
-use types.Run.{OneOf, miss}
-use denote.Enum.Declared.{tagOf}
-use Rattle.lua51_deserializer.specs.Chunk.{Read, here, refused, _then_, again, offset, exactly, signature}
+use Rattle.lua51_deserializer.specs.Chunk.{Read, here, refused, _then_, again, exactly, signature}
 use Rattle.lua51_deserializer.specs.Cursor.{readOf}
 use Rattle.lua51_deserializer.specs.declared.fields.Cursor.{Cursor}
-use Rattle.lua51_deserializer.specs.declared.fields.Cursor.the-variants.{Here, TooLong, HeaderDiffers, Ended}
-use Rattle.lua51_deserializer.specs.declared.fields.Cursor.the-variants.{OutOfRange, TooManyFunctions, LeftOver}
-use Rattle.lua51_deserializer.proofs.Tests.{either-way}
-use Rattle.lua51_deserializer.proofs.fields.Cursor.{the-type}
+use Rattle.lua51_deserializer.specs.declared.fields.Cursor.the-variants.{Here, Refused}
+use Rattle.lua51_deserializer.specs.declared.fields.ChunkFault.{ChunkFault}
+use Rattle.basics.proofs.Tests.{either-way}
 
--- the tags of the refusals
-abbrev pub refusals : List ℕ
-refusals = 1 ∷ 2 ∷ 3 ∷ 4 ∷ 5 ∷ 6 ∷ []
-
-pub refusal : (c : Cursor) → OneOf refusals (tagOf the-type c) → (n : ℕ) × (p : ℕ) × (readOf c ≡ refused n p)
-refusal (Here i) h = absurd (miss refusals 0 tt h)
-refusal TooLong h = (1, 0, refl)
-refusal (HeaderDiffers i) h = (2, i, refl)
-refusal (Ended i) h = (3, i, refl)
-refusal (OutOfRange i) h = (4, i, refl)
-refusal (TooManyFunctions i) h = (5, i, refl)
-refusal (LeftOver i) h = (6, i, refl)
-
-pub sticky : (c : Cursor) (f : ℕ → Read) → OneOf refusals (tagOf the-type c) → readOf c ≡ (readOf c then f)
-sticky c f h = let (n, p, e) = refusal c h in rw e refl
-
--- a refusal stands at no offset
-pub offset-refused : (c : Cursor) → OneOf refusals (tagOf the-type c) → 0 ≡ offset (readOf c)
-offset-refused (Here i) h = absurd (miss refusals 0 tt h)
-offset-refused TooLong h = refl
-offset-refused (HeaderDiffers i) h = refl
-offset-refused (Ended i) h = refl
-offset-refused (OutOfRange i) h = refl
-offset-refused (TooManyFunctions i) h = refl
-offset-refused (LeftOver i) h = refl
+pub sticky : (c : Cursor) (f : ℕ → Read) (x : ChunkFault) → c ≡ Refused x → readOf c ≡ (readOf c then f)
+sticky c f x e = rw e
 
 pub goes : (c : Cursor) (f : ℕ → Read) (i : ℕ) (r : Read) → c ≡ Here i → r ≡ f i → r ≡ (readOf c then f)
 goes c f i r e h = rw e h

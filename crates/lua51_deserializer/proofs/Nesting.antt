@@ -7,21 +7,18 @@ use native.Mathlib.Omega.{arith}
 use native.Mathlib.Nat.{sub-zero}
 use borrow.Author.Tests.{lt-ltb, le-ltb}
 use lib.ListN.{length}
-use types.Run.{OneOf}
-use denote.Enum.Declared.{tagOf}
-use Rattle.lua51_deserializer.specs.Chunk.{Read, here, refused, _then_, intAt, countTo, Place, Walk, walked}
+use Rattle.lua51_deserializer.specs.Chunk.{Read, here, refused, _then_, countTo, Place, Walk, walked}
+use Rattle.lua51_value.specs.Bytes.{intAt}
 use Rattle.lua51_deserializer.specs.Chunk.{_next_, many, begin, nest, finish, function, header, signature, ends}
 use Rattle.lua51_deserializer.specs.Chunk.{walk, most}
 use Rattle.lua51_deserializer.specs.Cursor.{readOf}
 use Rattle.lua51_deserializer.specs.declared.fields.Cursor.{Cursor}
-use Rattle.lua51_deserializer.specs.declared.fields.Cursor.the-variants.{Here}
-use Rattle.lua51_deserializer.proofs.Cursor.{refusals, refusal}
-use Rattle.lua51_deserializer.proofs.fields.Cursor.{the-type}
+use Rattle.lua51_deserializer.specs.declared.fields.Cursor.the-variants.{Here, Refused}
+use Rattle.lua51_deserializer.specs.declared.fields.ChunkFault.{ChunkFault}
 
 module _ (ps : List Place) (f : List Place → ℕ → Walk) where
-  pub sticky-walk : (c : Cursor) → OneOf refusals (tagOf the-type c)
-      → walked (readOf c) ps ≡ (walked (readOf c) ps next f)
-  sticky-walk c h = let (n, p, e) = refusal c h in rw e refl
+  pub sticky-walk : (c : Cursor) (x : ChunkFault) → c ≡ Refused x → walked (readOf c) ps ≡ (walked (readOf c) ps next f)
+  sticky-walk c x e = rw e
 
   pub goes-walk : (c : Cursor) (i : ℕ) (w : Walk) → c ≡ Here i → w ≡ f ps i → w ≡ (walked (readOf c) ps next f)
   goes-walk c i w e h = rw e h
@@ -85,8 +82,8 @@ module _ (s : List ℕ) (depth parent : ℕ) (ps : List Place) (i : ℕ) where
       unfolding function
       step = levels ∙ rw (number, lt-ltb me 256 few, ← begun)
 
-      pub function-stops : OneOf refusals (tagOf the-type c) → walked (readOf c) qs ≡ function s depth parent ps i
-      function-stops h = rw (step, ← sticky-walk qs (nest s (function s (depth - 1) me)) c h) (sticky-walk qs (finish s me) c h)
+      pub function-stops : (x : ChunkFault) → c ≡ Refused x → walked (readOf c) qs ≡ function s depth parent ps i
+      function-stops x e = rw (step, e)
 
       pub function-goes : (j : ℕ) (w : Walk) → c ≡ Here j
           → w ≡ (nest s (function s (depth - 1) me) qs j next finish s me) → w ≡ function s depth parent ps i

@@ -1,58 +1,15 @@
--- Laws of lists over a range, and of the places of functions that a walk keeps in arrays. Assumes nothing.
-use mathlib.Core.Path.{_≡_, refl, sym, _∙_, ap, subst}
+-- Laws of the places of functions that a walk keeps in arrays. Assumes nothing.
+use mathlib.Core.Path.{_≡_, refl, sym, _∙_}
 use mathlib.Core.List.{List, _∷_, _++_}
-use Prim.Native.Nat.{ℕ, zero, suc, _+_, _<_}
+use Prim.Native.Nat.{ℕ, _+_, _<_}
 use native.Mathlib.Omega.{arith}
 use lib.ListN.{length, getD, set}
 use lib.Seq.{getD-set-same, getD-set-other}
-use Rattle.lua51_deserializer.specs.Chunk.{Place, nowhere, from}
+use Rattle.lua51_deserializer.specs.Chunk.{Place, nowhere}
 use Rattle.lua51_deserializer.specs.Walked.{placeAt, placesOf}
-use Rattle.lua51_deserializer.specs.Range.{over, only}
+use Rattle.basics.specs.Range.{over, only}
 use Rattle.lua51_deserializer.specs.declared.chunk.Functions.{Functions}
-use Rattle.lua51_deserializer.proofs.Range.{over-split}
-
-module _ {A : Type 0} where
-  pub over-length : (f : ℕ → A) (from k : ℕ) → length (over (λ j. only (f j)) from k) ≡ k
-  unfolding over
-  over-length f from zero = refl
-  over-length f from (suc k) = ap suc (over-length f (from + 1) k)
-
-  pub over-at : (f : ℕ → A) (from k m : ℕ) (d : A) → m < k → getD (over (λ j. only (f j)) from k) m d ≡ f (from + m)
-  unfolding over
-  over-at f from zero m d h = absurd (omega arith)
-  over-at f from (suc k) zero d h = ap f (omega arith)
-  over-at f from (suc k) (suc m) d h = over-at f (from + 1) k m d (omega arith) ∙ ap f (omega arith)
-
-  pub over-same : (f g : ℕ → A) (from k : ℕ) → ((j : ℕ) → j < k → f (from + j) ≡ g (from + j))
-      → over (λ j. only (f j)) from k ≡ over (λ j. only (g j)) from k
-  unfolding over
-  over-same f g from zero h = refl
-  over-same f g from (suc k) h =
-      let z : from + 0 ≡ from = omega arith in
-      let first : f from ≡ g from = rw z at (h 0 (omega arith)) in
-      let rest = over-same f g (from + 1) k (λ j l. subst (λ (x : ℕ). f x ≡ g x) (omega arith) (h (suc j) (omega arith))) in
-      λ i. first i ∷ rest i
-
-  -- two that differ at one number only
-  pub over-set : (f g : ℕ → A) (v : A) (from k m : ℕ)
-      → (m < k → v ≡ g (from + m)) → ((j : ℕ) → j < k → (j ≡ m → ⊥) → f (from + j) ≡ g (from + j))
-      → set (over (λ j. only (f j)) from k) m v ≡ over (λ j. only (g j)) from k
-  unfolding over
-  over-set f g v from zero m e h = refl
-  over-set f g v from (suc k) zero e h =
-      let z : from + 0 ≡ from = omega arith in
-      let first : v ≡ g from = rw z at (e (omega arith)) in
-      let rest = over-same f g (from + 1) k (λ j l. subst (λ (x : ℕ). f x ≡ g x) (omega arith) (h (suc j) (omega arith) (λ d. omega arith))) in
-      λ i. first i ∷ rest i
-  over-set f g v from (suc k) (suc m) e h =
-      let z : from + 0 ≡ from = omega arith in
-      let first : f from ≡ g from = rw z at (h 0 (omega arith) (λ d. omega arith)) in
-      let rest = over-set f g v (from + 1) k m
-      (λ l. e (omega arith) ∙ ap g (omega arith))
-      (λ j l n. subst (λ (x : ℕ). f x ≡ g x) (omega arith) (h (suc j) (omega arith) (λ d. n (omega arith)))) in
-      λ i. first i ∷ rest i
-
--- ------------------------------------------------------------ places
+use Rattle.basics.proofs.Range.{over-split, over-length, over-at, over-same, over-set}
 
 place : {a b c d e f : ℕ} → a ≡ b → c ≡ d → e ≡ f → _≡_ {A = Place} (record { start = a; tail = c; parent = e }) (record { start = b; tail = d; parent = f })
 place p q r = λ i. record { start = p i; tail = q i; parent = r i }

@@ -4,20 +4,34 @@ use lib.ListN.{length}
 use mathlib.Core.List.{List}
 use Rattle.lua51_deserializer.specs.Chunk.{Read, here, refused, _then_, field, string, constant, most-bytes}
 use Rattle.lua51_deserializer.specs.declared.fields.Cursor.{Cursor}
-use Rattle.lua51_deserializer.specs.declared.fields.Cursor.the-variants.{Here, TooLong, HeaderDiffers, Ended}
-use Rattle.lua51_deserializer.specs.declared.fields.Cursor.the-variants.{OutOfRange, TooManyFunctions, LeftOver}
+use Rattle.lua51_deserializer.specs.declared.fields.Cursor.the-variants.{Here, Refused}
+use Rattle.lua51_deserializer.specs.declared.fields.ChunkFault.{ChunkFault}
+use Rattle.lua51_deserializer.specs.declared.fields.ChunkFault.the-variants.{TooLong, HeaderDiffers, Ended, OutOfRange, TooManyFunctions, LeftOver}
 use Rattle.lua51_deserializer.specs.declared.fields.Element.{Element}
 use Rattle.lua51_deserializer.specs.declared.fields.Element.the-variants.{Number, Constant, Local, Name}
 
--- 'Each gives number, function, place. For 1 to 6 the function is 0.'
+-- the number of each fault of a chunk's bytes
+abbrev pub chunkFaultNumber : ChunkFault → ℕ
+chunkFaultNumber TooLong = 1
+chunkFaultNumber (HeaderDiffers i) = 2
+chunkFaultNumber (Ended i) = 3
+chunkFaultNumber (OutOfRange i) = 4
+chunkFaultNumber (TooManyFunctions i) = 5
+chunkFaultNumber (LeftOver i) = 6
+
+-- its place; 1 has 'place 0'
+abbrev pub chunkFaultPlace : ChunkFault → ℕ
+chunkFaultPlace TooLong = 0
+chunkFaultPlace (HeaderDiffers i) = i
+chunkFaultPlace (Ended i) = i
+chunkFaultPlace (OutOfRange i) = i
+chunkFaultPlace (TooManyFunctions i) = i
+chunkFaultPlace (LeftOver i) = i
+
+-- 'Each gives number, function, place.'
 abbrev pub readOf : Cursor → Read
 readOf (Here i) = here i
-readOf TooLong = refused 1 0
-readOf (HeaderDiffers i) = refused 2 i
-readOf (Ended i) = refused 3 i
-readOf (OutOfRange i) = refused 4 i
-readOf (TooManyFunctions i) = refused 5 i
-readOf (LeftOver i) = refused 6 i
+readOf (Refused f) = refused (chunkFaultNumber f) (chunkFaultPlace f)
 
 -- what reads one element of a counted list: a word or a line, a constant, a local ('string and two 4-byte numbers'), a name
 abbrev pub elementOf : List ℕ → Element → ℕ → Read

@@ -2,7 +2,7 @@
 use Prim.Native.Nat.{ℕ}
 use mathlib.Core.List.{List}
 use lib.ListN.{getD}
-use Rattle.lua51_deserializer.specs.Range.{over, only}
+use Rattle.basics.specs.Range.{over, only}
 use Rattle.lua51_deserializer.specs.Chunk.{Place, Walk, walked}
 use Rattle.lua51_deserializer.specs.Cursor.{readOf}
 use Rattle.lua51_deserializer.specs.declared.chunk.Functions.{Functions}

@@ -1,8 +1,7 @@
 // The walk over a whole chunk: where each function starts, where what follows its nested functions starts, and which function it
 // is nested in; or refusals 1 to 6.
-use crate::bytes::byte_at;
-use crate::bytes::int_at;
 use crate::fields::BYTE_SIZE;
+use crate::fields::ChunkFault;
 use crate::fields::Cursor;
 use crate::fields::MOST;
 use crate::fields::code;
@@ -13,6 +12,8 @@ use crate::fields::lines;
 use crate::fields::locals;
 use crate::fields::names;
 use crate::fields::whole;
+use basics::slices::byte_at;
+use lua51_value::bytes::int_at;
 ghost use mathlib.Core.Path.{_≡_};
 ghost use Prim.Native.Nat.{_<_, _≤_};
 ghost use Rattle.lua51_deserializer.specs.Chunk.{refused, _then_, _next_, walked, countTo, most, most-bytes, exactly, signature, header, begin, finish, function, ends, walk};
@@ -73,11 +74,11 @@ fn exactly(s: &[u8], c: Cursor, b: u8) -> Cursor
     if whole(s, at, BYTE_SIZE) {
         let behind = at + BYTE_SIZE;
         if byte_at(s, at) != b {
-            return Cursor::HeaderDiffers(at);
+            return Cursor::Refused(ChunkFault::HeaderDiffers(at));
         }
         return Cursor::Here(behind);
     }
-    Cursor::Ended(at)
+    Cursor::Refused(ChunkFault::Ended(at))
 }
 
 // The header, from offset 0 on.
@@ -99,7 +100,7 @@ fn too_many(at: usize, w: Walked) -> Walked
 {
     let functions = w.functions;
     Walked {
-        cursor: Cursor::TooManyFunctions(at),
+        cursor: Cursor::Refused(ChunkFault::TooManyFunctions(at)),
         functions,
     }
 }
@@ -197,7 +198,7 @@ fn ends(s: &[u8], c: Cursor) -> Cursor
         return c;
     };
     if at < s.len() {
-        return Cursor::LeftOver(at);
+        return Cursor::Refused(ChunkFault::LeftOver(at));
     }
     c
 }
@@ -214,7 +215,7 @@ pub fn walk(s: &[u8]) -> Walked
     };
     if MOST_BYTES < s.len() {
         return Walked {
-            cursor: Cursor::TooLong,
+            cursor: Cursor::Refused(ChunkFault::TooLong),
             functions: none,
         };
     }

@@ -1,17 +1,26 @@
 // The fields of a chunk, in the order of Lua 5.1's ldump.c. Each reader goes on from a cursor and gives the cursor behind its
 // field; a refusal passes through unchanged.
-use crate::bytes::byte_at;
-use crate::bytes::int_at;
+use basics::slices::byte_at;
+use lua51_value::bytes::int_at;
+use lua51_value::value::KIND_BOOLEAN;
+use lua51_value::value::KIND_NIL;
+use lua51_value::value::KIND_NUMBER;
+use lua51_value::value::KIND_STRING;
 ghost use mathlib.Core.Path.{_≡_};
 ghost use Prim.Native.Nat.{_+_};
 ghost use lib.Dec.{leb};
 ghost use lib.ListN.{length};
-ghost use Rattle.lua51_deserializer.specs.Chunk.{_then_, again, field, limited, byteTo, countTo, counted, body, string, present, constant, head, code, constants, lines, locals, names};
+ghost use Rattle.lua51_deserializer.specs.Chunk.{_then_, again, offset, field, limited, byteTo, countTo, counted, body, string, present, constant, head, code, constants, lines, locals, names};
 ghost use Rattle.lua51_deserializer.specs.Cursor.{readOf, elementOf};
 
-// Where the next field stands, or a refusal with its place.
+// Where the next field stands, or what is wrong with the bytes.
 pub enum Cursor {
     Here(usize),
+    Refused(ChunkFault),
+}
+
+// What is wrong with a chunk's bytes: refusals 1 to 6, each with its place.
+pub enum ChunkFault {
     // 1: the chunk is too long
     TooLong,
     // 2: a header byte differs
@@ -24,6 +33,16 @@ pub enum Cursor {
     TooManyFunctions(usize),
     // 6: bytes are left over
     LeftOver(usize),
+}
+
+// The offset that a cursor stands at; 0 where it is a refusal.
+pub fn offset_of(c: Cursor) -> usize
+    ensures { λ r. ⌜ r ≡ offset (readOf c) ⌝ }
+{
+    let Cursor::Here(at) = c else {
+        return 0;
+    };
+    at
 }
 
 // What a counted list is made of.
@@ -42,22 +61,13 @@ pub const INT_SIZE: usize = 4;
 const NUMBER_SIZE: usize = 8;
 
 // Limits: refusal 4.
-const MOST_WORDS: u32 = 8192;
+pub const MOST_WORDS: u32 = 8192;
 
 pub const MOST: u32 = 65536;
 
 const MOST_FLAGS: u32 = 7;
 
 const MOST_BOOLEAN: u32 = 1;
-
-// Kinds of constants.
-pub const KIND_NIL: u8 = 0;
-
-pub const KIND_BOOLEAN: u8 = 1;
-
-pub const KIND_NUMBER: u8 = 3;
-
-pub const KIND_STRING: u8 = 4;
 
 // Whether the bytes go on for `size` bytes from offset `at`.
 pub fn whole(s: &[u8], at: usize, size: usize) -> bool
@@ -79,7 +89,7 @@ pub fn field(s: &[u8], c: Cursor, size: usize) -> Cursor
     if whole(s, at, size) {
         return Cursor::Here(at + size);
     }
-    Cursor::Ended(at)
+    Cursor::Refused(ChunkFault::Ended(at))
 }
 
 // A field of `size` bytes whose value may not be above a limit.
@@ -91,11 +101,11 @@ pub fn limited(s: &[u8], c: Cursor, size: usize, limit: u32, value: u32) -> Curs
     };
     if whole(s, at, size) {
         if limit < value {
-            return Cursor::OutOfRange(at);
+            return Cursor::Refused(ChunkFault::OutOfRange(at));
         }
         return Cursor::Here(at + size);
     }
-    Cursor::Ended(at)
+    Cursor::Refused(ChunkFault::Ended(at))
 }
 
 // A byte that may not be above a limit.
@@ -131,11 +141,11 @@ pub fn body(s: &[u8], c: Cursor, size: usize) -> Cursor
     if whole(s, at, size) {
         let last = byte_at(s, at + (size - 1));
         if last != 0 {
-            return Cursor::OutOfRange(at);
+            return Cursor::Refused(ChunkFault::OutOfRange(at));
         }
         return Cursor::Here(at + size);
     }
-    Cursor::Ended(at)
+    Cursor::Refused(ChunkFault::Ended(at))
 }
 
 // A string, which may be absent: its size and its body.
@@ -157,11 +167,11 @@ pub fn present(s: &[u8], c: Cursor) -> Cursor
     };
     if whole(s, at, INT_SIZE) {
         if int_at(s, at) == 0 {
-            return Cursor::OutOfRange(at);
+            return Cursor::Refused(ChunkFault::OutOfRange(at));
         }
         return string(s, c);
     }
-    Cursor::Ended(at)
+    Cursor::Refused(ChunkFault::Ended(at))
 }
 
 // A constant: its kind and what is behind it.
@@ -172,7 +182,7 @@ pub fn constant(s: &[u8], c: Cursor) -> Cursor
         return c;
     };
     if s.len() <= at {
-        return Cursor::Ended(at);
+        return Cursor::Refused(ChunkFault::Ended(at));
     }
     let kind = s[at];
     let behind = Cursor::Here(at + 1);
@@ -188,7 +198,7 @@ pub fn constant(s: &[u8], c: Cursor) -> Cursor
     if kind == KIND_STRING {
         return present(s, behind);
     }
-    Cursor::OutOfRange(at)
+    Cursor::Refused(ChunkFault::OutOfRange(at))
 }
 
 // A local variable: its name and two lines.

@@ -8,14 +8,16 @@ use borrow.Author.Tests.{lt-ltb, le-ltb, lt-leb, eq-eqb, ne-eqb, ltb-false}
 use lib.Dec.{ltb}
 use lib.ListN.{length, getD, take, drop, set, length-append, length-take, length-drop, drop-of-length-le, List·getD-eq-default}
 use lib.Seq.{drop-cons, drop-drop, getD-drop, take-suc, set-at, length-take-le, append-snoc}
-use Rattle.lua51_deserializer.specs.Chunk.{Place, nowhere, byteAt, intAt, ints, offset, constant, valueAt, valuesAt, nestedIn, kindOf, wordsOf, constantsOf, constantsAt, protoAt}
-use Rattle.lua51_deserializer.specs.Constant.{within}
+use Rattle.lua51_deserializer.specs.Chunk.{Place, nowhere, ints, offset, constant, valuesAt, nestedIn, wordsOf, constantsOf, constantsAt, protoAt}
+use Rattle.lua51_value.specs.Bytes.{byteAt, intAt}
+use Rattle.lua51_value.specs.Value.{valueAt, kindOf}
+use Rattle.lua51_value.specs.Constant.{within}
 use Rattle.lua51_deserializer.specs.Walked.{placeAt}
 use Rattle.lua51_function.specs.Function.{heldCount, heldOf, placesFrom, Filled, kindAt, constantPlaces}
 use Rattle.lua51_deserializer.specs.declared.chunk.Functions.{Functions}
-use Rattle.lua51_deserializer.proofs.Tests.{either-way}
-use Rattle.lua51_deserializer.proofs.Ends.{byte-past, byte-within, int-within, cut-off}
-use Rattle.lua51_deserializer.proofs.Places.{over-length, over-at}
+use Rattle.basics.proofs.Tests.{either-way}
+use Rattle.lua51_value.proofs.Ends.{byte-past, byte-within, int-within, cut-off}
+use Rattle.basics.proofs.Range.{over-length, over-at}
 
 -- ------------------------------------------------------------ places cut off at the end of the bytes
 
@@ -156,16 +158,16 @@ module _ (f : ℕ → Place → ℕ) (me : ℕ) where
   nested-start (p ∷ ps) = refl
 
   module _ (ps : List Place) (k : ℕ) where
-    opened : k < length ps → nestedIn f me k (drop k ps) ≡ nestedIn f me k (getD ps k nowhere ∷ drop (k + 1) ps)
-    opened h = rw (add-one k, drop-cons ps k nowhere h)
+    split-off : k < length ps → nestedIn f me k (drop k ps) ≡ nestedIn f me k (getD ps k nowhere ∷ drop (k + 1) ps)
+    split-off h = rw (add-one k, drop-cons ps k nowhere h)
 
     pub nested-found : 0 < k → k < length ps → getD ps k nowhere .parent ≡ me → nestedIn f me k (drop k ps) ≡ f k (getD ps k nowhere) ∷ nestedIn f me (k + 1) (drop (k + 1) ps)
     unfolding nestedIn
-    nested-found z h e = opened h ∙ rw (lt-ltb 0 k z, eq-eqb _ _ e)
+    nested-found z h e = split-off h ∙ rw (lt-ltb 0 k z, eq-eqb _ _ e)
 
     pub nested-other : k < length ps → (getD ps k nowhere .parent ≡ me → ⊥) → nestedIn f me k (drop k ps) ≡ nestedIn f me (k + 1) (drop (k + 1) ps)
     unfolding nestedIn
-    nested-other h e = opened h ∙ either-way (ltb 0 k) (λ t. rw (t, ne-eqb _ _ e)) (λ t. rw t)
+    nested-other h e = split-off h ∙ either-way (ltb 0 k) (λ t. rw (t, ne-eqb _ _ e)) (λ t. rw t)
 
     pub nested-none : length ps ≤ k → nestedIn f me k (drop k ps) ≡ []
     unfolding nestedIn

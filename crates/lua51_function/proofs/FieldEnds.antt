@@ -7,7 +7,8 @@ use native.Mathlib.Omega.{arith}
 use borrow.Author.Tests.{leb-true}
 use lib.Dec.{leb}
 use lib.ListN.{length, getD}
-use Rattle.lua51_deserializer.specs.Chunk.{Read, here, refused, _then_, again, byteAt, intAt, byteTo, countTo, field, limited, counted, constant, string, head, code, bytesOf, wordsOf, most-flags, most-words, offset}
+use Rattle.lua51_deserializer.specs.Chunk.{Read, here, refused, _then_, again, byteTo, countTo, field, limited, counted, constant, string, head, code, bytesOf, wordsOf, most-flags, most-words, offset}
+use Rattle.lua51_value.specs.Bytes.{byteAt, intAt}
 use Rattle.lua51_function.specs.Function.{placesFrom}
 
 -- a refusal is no offset

@@ -1,4 +1,5 @@
 pub mod Buffers
 pub mod FieldEnds
+pub mod Standing
 pub mod WholeChunk
 pub mod WholeFunction

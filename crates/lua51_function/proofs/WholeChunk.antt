@@ -8,11 +8,12 @@ use borrow.Author.Tests.{ltb-true, ltb-false}
 use lib.Dec.{ltb, eqb}
 use lib.ListN.{length, getD, drop, set, length-append, length-set, length-drop, length-map}
 use lib.Seq.{getD-append-seam, set-append-seam, append-snoc}
-use Rattle.lua51_deserializer.specs.Range.{only}
-use Rattle.lua51_deserializer.specs.Chunk.{Read, here, refused, _then_, intAt, countTo, constant, head, code, constants, lines, locals, names, field, string, Place, nowhere, Walk, walked, from, _next_, many, begin, nest, finish, function, signature, header, ends, walk, offset, wordsOf, constantsOf, constantsAt, nestedIn, protoAt, most, most-bytes, most-depth, most-functions}
-use Rattle.lua51_deserializer.specs.Constant.{within}
+use Rattle.basics.specs.Range.{only}
+use Rattle.lua51_deserializer.specs.Chunk.{Read, here, refused, _then_, countTo, constant, head, code, constants, lines, locals, names, field, string, Place, nowhere, Walk, walked, from, _next_, many, begin, nest, finish, function, signature, header, ends, walk, offset, wordsOf, constantsOf, constantsAt, nestedIn, protoAt, most, most-bytes, most-depth, most-functions}
+use Rattle.lua51_value.specs.Bytes.{intAt}
+use Rattle.lua51_value.specs.Constant.{within}
 use Rattle.lua51_function.specs.Function.{numberIn, upvaluesIn, WasRead, InLimits, WholeChunk, Unrefused}
-use Rattle.lua51_deserializer.proofs.Tests.{either-way}
+use Rattle.basics.proofs.Tests.{either-way}
 use Rattle.lua51_function.proofs.FieldEnds.{never, then-here, counted-here, head-here, code-here, each-here}
 use Rattle.lua51_function.proofs.Buffers.{ints-length, places-count, values-are, nested-start}
 
@@ -72,7 +73,7 @@ in-limits s ps f few r =
       words = rw (ints-length s (wordsOf s (p .start) + 4) (intAt s (wordsOf s (p .start)))) (code-here s (wordsOf s (p .start)) k (r .code) .0);
       kinds = simp length-map (rw (values-are s (k + 4) (intAt s k)) (simp length-map (rw (places-count s (within s (k + 4)) (intAt s k)) (counted-here s most (constant s) k (r .nested) (r .constants) .0))));
       nested = nested-few numberIn f ps few;
-      captured = nested-few (upvaluesIn s) f ps few;
+      nups = nested-few (upvaluesIn s) f ps few;
       lines = rw (ints-length s (p .tail + 4) (intAt s (p .tail))) (counted-here s most (field s 4) (p .tail) a line .0);
       names = rw at (counted-here s most (string s) b (r .end) name .0);
     }

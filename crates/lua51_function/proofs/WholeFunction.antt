@@ -5,7 +5,9 @@ use Prim.Native.Nat.{ℕ, zero, suc, _+_, _≤_, _<_, min}
 use native.Mathlib.Omega.{arith}
 use lib.ListN.{length, getD, take, drop, length-map}
 use lib.Seq.{take-at, take-length}
-use Rattle.lua51_deserializer.specs.Chunk.{here, Place, Walk, nowhere, walk, valueAt, intAt, constantsAt, constantsOf, Nil, protoAt}
+use Rattle.lua51_deserializer.specs.Chunk.{here, Place, Walk, nowhere, walk, constantsAt, constantsOf, protoAt}
+use Rattle.lua51_value.specs.Value.{valueAt, Nil}
+use Rattle.lua51_value.specs.Bytes.{intAt}
 use Rattle.lua51_deserializer.specs.Walked.{placesOf, walkOf}
 use Rattle.lua51_function.specs.Function.{heldCount, heldOf, constantPlaces, Filled, Loads, WasRead, InLimits, Roomy, Holds, HoldsEach}
 use Rattle.lua51_deserializer.specs.declared.chunk.Walked.{Walked}
@@ -56,7 +58,7 @@ module _ (s : List ℕ) (ps : List Place) (f : ℕ) (r : Loaded) (ws ws′ ks ks
       let p = protoAt s ps f in
       let words : length (p .words) ≤ length ws = omega arith in
       let nested : length (p .nested) ≤ min (length ns) (length us) = omega arith in
-      let captured : length (p .captured) ≤ min (length ns) (length us) = omega arith in
+      let nups : length (p .nups) ≤ min (length ns) (length us) = omega arith in
       record {
         stands = record {
           number = ap (λ (h : Head). h .number) (sym (l .head));
@@ -69,7 +71,7 @@ module _ (s : List ℕ) (ps : List Place) (f : ℕ) (r : Loaded) (ws ws′ ks ks
           words = whole-content (l .words) words;
           kinds = refl;
           nested = whole-content (l .nested) nested;
-          captured = whole-content (l .captured) captured;
+          nups = whole-content (l .nups) nups;
         };
         kinds = λ h. whole-content (l .kinds) (omega (arith, filled-length (l .kinds)));
         words = whole-count (l .words) words;

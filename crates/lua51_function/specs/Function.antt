@@ -3,10 +3,12 @@ use mathlib.Core.List.{List, [], _∷_, _++_}
 use mathlib.Core.Path.{_≡_}
 use Prim.Native.Nat.{ℕ, zero, suc, _+_, _≤_, _<_, min}
 use lib.ListN.{getD, length, take, drop}
-use Rattle.lua51_deserializer.specs.Proto.{Proto}
-use Rattle.lua51_deserializer.specs.Chunk.{here, _then_, byteAt, intAt, offset, constant, head, code, constants, lines, locals, names, Place, nowhere, walk, kindOf, valueAt, bytesOf, wordsOf, constantsOf, nestedIn, protoAt, most, most-bytes, most-flags, most-functions, most-words, constantsAt, Nil}
-use Rattle.lua51_deserializer.specs.Constant.{within}
-use Rattle.lua51_deserializer.specs.Range.{over, only}
+use Rattle.lua51_instruction.specs.Proto.{Proto}
+use Rattle.lua51_deserializer.specs.Chunk.{here, _then_, offset, constant, head, code, constants, lines, locals, names, Place, nowhere, walk, bytesOf, wordsOf, constantsOf, nestedIn, protoAt, most, most-bytes, most-flags, most-functions, most-words, constantsAt}
+use Rattle.lua51_value.specs.Bytes.{byteAt, intAt}
+use Rattle.lua51_value.specs.Value.{kindOf, valueAt, Nil}
+use Rattle.lua51_value.specs.Constant.{within}
+use Rattle.basics.specs.Range.{over, only}
 use Rattle.lua51_deserializer.specs.Walked.{placeAt, walkOf}
 use Rattle.lua51_deserializer.specs.declared.chunk.Functions.{Functions}
 use Rattle.lua51_deserializer.specs.declared.chunk.Walked.{Walked}
@@ -27,7 +29,7 @@ pub record Stands (p : Proto) (h : Head) (ws ks ns us : List ℕ) : Type 0 where
   pub words : p .words ≡ ws
   pub kinds : p .kinds ≡ ks
   pub nested : p .nested ≡ ns
-  pub captured : p .captured ≡ us
+  pub nups : p .nups ≡ us
 
 -- ------------------------------------------------------------ the table of functions
 
@@ -102,7 +104,7 @@ pub record Loads (s : List ℕ) (ps : List Place) (f : ℕ) (r : Loaded) (ws ws�
   pub words : Filled (r .words) (length ws) (protoAt s ps f .words) ws ws′
   pub kinds : Filled (r .kinds) (length ks) (protoAt s ps f .kinds) ks ks′
   pub nested : Filled (r .nested) (min (length ns) (length us)) (protoAt s ps f .nested) ns ns′
-  pub captured : Filled (r .nested) (min (length ns) (length us)) (protoAt s ps f .captured) us us′
+  pub nups : Filled (r .nested) (min (length ns) (length us)) (protoAt s ps f .nups) us us′
 
 -- ------------------------------------------------------------ a chunk that is not refused
 
@@ -116,14 +118,14 @@ pub record WasRead (s : List ℕ) (p : Place) : Type 0 where
   pub end : ℕ
   pub tail : (lines s (p .tail) then locals s then names s) ≡ here end
 
--- a function within the limits: 'Words above 8,192; another count or string size above 65,536; flags above 7' (4), and as
+-- a function within the limits: 'Words above 8,192; another count or string size above 65,536' .. 'flags above 7' (4), and as
 -- many functions as a chunk can have beside it (5)
 pub record InLimits (p : Proto) : Type 0 where
   pub flags : p .flags ≤ most-flags
   pub words : length (p .words) ≤ most-words
   pub kinds : length (p .kinds) ≤ most
   pub nested : length (p .nested) < most-functions
-  pub captured : length (p .captured) < most-functions
+  pub nups : length (p .nups) < most-functions
   pub lines : length (p .lines) ≤ most
   pub names : p .names ≤ most
 
@@ -141,7 +143,7 @@ pub record WholeChunk (s : List ℕ) : Type 0 where
 pub record Roomy (ws ns us : List ℕ) : Type 0 where
   pub words : most-words ≤ length ws
   pub nested : most-functions ≤ length ns
-  pub captured : most-functions ≤ length us
+  pub nups : most-functions ≤ length us
 
 -- the buffers hold all of function f, as many of each list as r says, and its kinds where there was room for the most; from the
 -- place of its first constant on, each was read, and its value is the function's

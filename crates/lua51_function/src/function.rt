@@ -1,27 +1,28 @@
 // One function of a chunk, in plain buffers: its head by value, and its lists in arrays that the caller lends.
-use lua51_deserializer::bytes::byte_at;
-use lua51_deserializer::bytes::byte_behind;
-use lua51_deserializer::bytes::int_at;
+use basics::slices::byte_at;
 use lua51_deserializer::chunk::Functions;
 use lua51_deserializer::chunk::MOST_FUNCTIONS;
 use lua51_deserializer::fields::Cursor;
 use lua51_deserializer::fields::INT_SIZE;
-use lua51_deserializer::fields::KIND_BOOLEAN;
-use lua51_deserializer::fields::KIND_NIL;
-use lua51_deserializer::fields::KIND_NUMBER;
-use lua51_deserializer::fields::KIND_STRING;
 use lua51_deserializer::fields::constant;
 use lua51_deserializer::fields::lines;
 use lua51_deserializer::fields::locals;
+use lua51_deserializer::fields::offset_of;
 use lua51_deserializer::fields::string;
-use lua51_deserializer::value::place_after;
+use lua51_value::bytes::byte_behind;
+use lua51_value::bytes::int_at;
+use lua51_value::value::KIND_BOOLEAN;
+use lua51_value::value::KIND_NIL;
+use lua51_value::value::KIND_NUMBER;
+use lua51_value::value::KIND_STRING;
+use lua51_value::value::place_after;
 ghost use mathlib.Core.Path.{_≡_};
 ghost use mathlib.Core.List.{map};
 ghost use Prim.Native.Nat.{_+_, min};
 ghost use lib.ListN.{getD, length};
-ghost use Rattle.lua51_deserializer.specs.Chunk.{offset, intAt, ints, nowhere, bytesOf, wordsOf, constantsOf, nestedIn, protoAt};
-ghost use Rattle.lua51_deserializer.specs.Constant.{within};
-ghost use Rattle.lua51_deserializer.specs.Cursor.{readOf};
+ghost use Rattle.lua51_deserializer.specs.Chunk.{offset, ints, nowhere, bytesOf, wordsOf, constantsOf, nestedIn, protoAt};
+ghost use Rattle.lua51_value.specs.Bytes.{intAt};
+ghost use Rattle.lua51_value.specs.Constant.{within};
 ghost use Rattle.lua51_function.specs.Function.{heldCount, heldOf, numberIn, upvaluesIn, NextNested, placesFrom, kindAt, Filled, headOf, Loads};
 
 // What a function's refusals, listing and graph need beside its lists.
@@ -48,6 +49,16 @@ pub struct Loaded {
     pub nested: usize,
 }
 
+// Room for the largest function: its words, the marks of its words and of what is behind the last, its constants, and the functions
+// that can be nested in it.
+pub const MOST_WORDS: usize = lua51_deserializer::fields::MOST_WORDS as usize;
+
+pub const MOST_MARKS: usize = MOST_WORDS + 1;
+
+pub const MOST_CONSTANTS: usize = lua51_deserializer::fields::MOST as usize;
+
+pub const MOST_NESTED: usize = MOST_FUNCTIONS;
+
 // Two lines stand between a function's source and its four bytes.
 const LINES_SIZE: usize = 8;
 // Upvalues, parameters, flags and stack.
@@ -67,16 +78,6 @@ fn least(a: usize, b: usize) -> usize
         return a;
     }
     b
-}
-
-// The offset that a cursor stands at; 0 where it is a refusal.
-pub fn offset_of(c: Cursor) -> usize
-    ensures { λ r. ⌜ r ≡ offset (readOf c) ⌝ }
-{
-    let Cursor::Here(at) = c else {
-        return 0;
-    };
-    at
 }
 
 // How many functions the table holds.
@@ -216,13 +217,13 @@ fn fill_nested(
     functions: Functions,
     me: u32,
     numbers: &mut [u32],
-    captured: &mut [u8],
+    nups: &mut [u8],
 ) -> usize
-    ensures numbers { λ r. ⌜ Filled r (min (length (now (numbers .entry))) (length (now (captured .entry)))) (nestedIn numberIn me 0 (heldOf functions)) (now (numbers .entry)) (now (numbers .exit)) ⌝ }
-    ensures captured { λ r. ⌜ Filled r (min (length (now (numbers .entry))) (length (now (captured .entry)))) (nestedIn (upvaluesIn (now (s .entry))) me 0 (heldOf functions)) (now (captured .entry)) (now (captured .exit)) ⌝ }
+    ensures numbers { λ r. ⌜ Filled r (min (length (now (numbers .entry))) (length (now (nups .entry)))) (nestedIn numberIn me 0 (heldOf functions)) (now (numbers .entry)) (now (numbers .exit)) ⌝ }
+    ensures nups { λ r. ⌜ Filled r (min (length (now (numbers .entry))) (length (now (nups .entry)))) (nestedIn (upvaluesIn (now (s .entry))) me 0 (heldOf functions)) (now (nups .entry)) (now (nups .exit)) ⌝ }
 {
     let count = held(functions);
-    let room = least(numbers.len(), captured.len());
+    let room = least(numbers.len(), nups.len());
     let mut n: usize = 0;
     let mut k = next_nested(functions, me, 1);
     while k < count {
@@ -230,7 +231,7 @@ fn fill_nested(
             return n;
         }
         numbers[n] = k as u32;
-        captured[n] = byte_at(s, bytes_of(s, functions.starts[k] as usize));
+        nups[n] = byte_at(s, bytes_of(s, functions.starts[k] as usize));
         n += 1;
         k = next_nested(functions, me, k + 1);
     }
@@ -247,9 +248,9 @@ pub fn function_at(
     words: &mut [u32],
     kinds: &mut [u8],
     nested: &mut [u32],
-    captured: &mut [u8],
+    nups: &mut [u8],
 ) -> Loaded
-    ensures { λ r. ⌜ Loads (now (s .entry)) (heldOf functions) f r (now (words .entry)) (now (words .exit)) (now (kinds .entry)) (now (kinds .exit)) (now (nested .entry)) (now (nested .exit)) (now (captured .entry)) (now (captured .exit)) ⌝ }
+    ensures { λ r. ⌜ Loads (now (s .entry)) (heldOf functions) f r (now (words .entry)) (now (words .exit)) (now (kinds .entry)) (now (kinds .exit)) (now (nested .entry)) (now (nested .exit)) (now (nups .entry)) (now (nups .exit)) ⌝ }
 {
     let start = start_of(functions, f as usize);
     let head = head_at(s, functions, f);
@@ -262,6 +263,6 @@ pub fn function_at(
         constants,
         words: fill_words(s, start, words),
         kinds: fill_kinds(s, first, constants, kinds),
-        nested: fill_nested(s, functions, f, nested, captured),
+        nested: fill_nested(s, functions, f, nested, nups),
     }
 }

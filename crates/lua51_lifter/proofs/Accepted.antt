@@ -5,20 +5,19 @@ use native.Mathlib.Omega.{arith}
 use mathlib.Core.Path.{_≡_, ap, _∙_}
 use lib.Dec.{leb, ltb, eqb}
 use borrow.Author.Tests.{ltb-true, ltb-false, leb-true, eqb-true, eqb-false, eq-eqb}
-use Rattle.lua51_deserializer.specs.Word.{TESTSET, RETURN, CLOSURE, UNKNOWN, Flow, rowOf, numberOf}
-use Rattle.lua51_deserializer.specs.Proto.{Proto, size, opcode, is, A, flowAt, B, C, capturesOf}
+use Rattle.lua51_instruction.specs.Word.{TESTSET, RETURN, CLOSURE, UNKNOWN, Flow, rowOf, numberOf}
+use Rattle.lua51_instruction.specs.Proto.{Proto, size, opcode, is, A, flowAt, B, C, capturesOf}
 use Rattle.lua51_lifter.specs.Check.{check, fine, lastFault, refuseIf, Verdict, _else_, user, firstRefusal, slot}
 use Rattle.lua51_lifter.specs.Check.{missing-results, operandFault, useVerdict, operand, opener, wordVerdict}
 use Rattle.lua51_lifter.specs.Check.{unused-results, reached, matches, headFault, allCaptures, landsInside}
 use Rattle.lua51_lifter.specs.Check.{reaches}
 use Rattle.cfg.specs.Graph.{leader}
 use Rattle.lua51_lifter.proofs.Verdicts.{refused-not, else-then, first-all, else-first}
-use Rattle.lua51_deserializer.proofs.Tests.{and-left, or-left, not-is, either-way, and-right, clash, not-not, or-right}
-use Rattle.lua51_deserializer.proofs.Tests.{and-not}
+use Rattle.basics.proofs.Tests.{and-left, or-left, not-is, either-way, and-right, clash, not-not, or-right, and-not}
 use Rattle.cfg.proofs.Leaders.{end-leads}
-use Rattle.lua51_deserializer.specs.Range.{times, sum}
-use Rattle.lua51_deserializer.proofs.Table.{word-beyond}
-use Rattle.lua51_deserializer.proofs.Range.{sum-at}
+use Rattle.basics.specs.Range.{times, sum}
+use Rattle.lua51_instruction.proofs.Table.{word-beyond}
+use Rattle.basics.proofs.Range.{sum-at}
 
 module _ (p : Proto) (ok : check p ≡ fine) where
   -- ------------------------------------------------------------ the verdicts
@@ -109,9 +108,16 @@ module _ (p : Proto) (ok : check p ≡ fine) where
     unfolding useVerdict
     results-right = refused-not _ 12 i (else-first (refuseIf (unused-results p i || missing-results p i) 12 i) _ (use-fine i lt))
 
-    pub opener-used : opener p i ≡ true → user p (i + 1) ≡ true
-    unfolding unused-results
-    opener-used h = and-left (user p (i + 1)) _ (and-left _ (matches p i) (not-not _ (and-not (opener p i) _ (or-left (unused-results p i) _ results-right) h)))
+    module _ (h : opener p i ≡ true) where
+      opener-served : user p (i + 1) && not (leader p (i + 1)) && matches p i ≡ true
+      unfolding unused-results
+      opener-served = not-not _ (and-not (opener p i) _ (or-left (unused-results p i) _ results-right) h)
+
+      pub opener-used : user p (i + 1) ≡ true
+      opener-used = and-left (user p (i + 1)) _ (and-left _ (matches p i) opener-served)
+
+      pub opener-matched : matches p i ≡ true
+      opener-matched = and-right (user p (i + 1) && not (leader p (i + 1))) (matches p i) opener-served
 
     module _ (h : user p i ≡ true) where
       user-served : ltb 0 i && opener p (i - 1) && not (leader p i) && leb (slot p i) (A p (i - 1)) ≡ true

@@ -2,23 +2,24 @@
 use Prim.Native.Nat.{ℕ}
 use mathlib.Core.List.{List, [], _∷_, _++_, flatMap}
 use mathlib.Core.Path.{_≡_, refl}
-use Rattle.lua51_deserializer.specs.Word.{MOVE, LOADK, LOADBOOL, LOADNIL, GETUPVAL, GETGLOBAL, GETTABLE, SETGLOBAL}
-use Rattle.lua51_deserializer.specs.Word.{SETUPVAL, SETTABLE, NEWTABLE, SELF, ADD, SUB, MUL, DIV, MOD, POW, UNM, NOT}
-use Rattle.lua51_deserializer.specs.Word.{LEN, CONCAT, JMP, EQ, LT, LE, TEST, TESTSET, CALL, TAILCALL, RETURN, FORLOOP}
-use Rattle.lua51_deserializer.specs.Word.{FORPREP, TFORLOOP, SETLIST, CLOSE, CLOSURE, VARARG, opOf, row, rowOf}
-use Rattle.lua51_deserializer.specs.Range.{sum, times, over}
-use Rattle.lua51_deserializer.specs.Proto.{Proto}
-use Rattle.lua51_deserializer.specs.Encode.{abc, abx, jumps}
+use Rattle.lua51_instruction.specs.Word.{MOVE, LOADK, LOADBOOL, LOADNIL, GETUPVAL, GETGLOBAL, GETTABLE, SETGLOBAL}
+use Rattle.lua51_instruction.specs.Word.{SETUPVAL, SETTABLE, NEWTABLE, SELF, ADD, SUB, MUL, DIV, MOD, POW, UNM, NOT}
+use Rattle.lua51_instruction.specs.Word.{LEN, CONCAT, JMP, EQ, LT, LE, TEST, TESTSET, CALL, TAILCALL, RETURN, FORLOOP}
+use Rattle.lua51_instruction.specs.Word.{FORPREP, TFORLOOP, SETLIST, CLOSE, CLOSURE, VARARG, opOf, row, rowOf}
+use Rattle.basics.specs.Range.{sum, times, over}
+use Rattle.lua51_instruction.specs.Jump.{targetOf}
+use Rattle.lua51_instruction.specs.Proto.{Proto}
+use Rattle.lua51_instruction.specs.Encode.{abc, abx, jumps}
 use Rattle.lines.specs.Line.{digits, decimal, column, line}
 use Rattle.lines.specs.Text.{bytes}
-use Rattle.lua51_deserializer.specs.Chunk.{Value, Text, kind-string, kind-nil, Nil, kindOf}
+use Rattle.lua51_value.specs.Value.{Value, Text, kind-string, kind-nil, Nil, kindOf}
 use Rattle.cfg.specs.Graph.{claims, leader, blockOf, leaderFrom, past, leaving, exits, entering, isLoop, thenOf}
 use Rattle.cfg.specs.Graph.{diverted, betweenOf}
 use Rattle.lua51_lifter.specs.Check.{firstRefusal, headFault, lastFault, operand, operandFault, landsInside}
 use Rattle.lua51_lifter.specs.Check.{tests, wordVerdict, opener, user, slot, matches, unused-results}
 use Rattle.lua51_lifter.specs.Check.{missing-results, allCaptures, reaches, reached, useVerdict, check, fine}
 use Rattle.ast.specs.Statement.{count, expr, exprs, tailNumbers, run, registers}
-use Rattle.lua51_lifter.specs.Lift.{rk, condition, concatenated, captures, taken, opened, statementsBy, pending}
+use Rattle.lua51_lifter.specs.Lift.{rk, condition, concatenated, captures, taken, openResults, statementsBy, pending}
 use Rattle.lua51_lifter.specs.Lift.{statements, onThen}
 use Rattle.lua51_lifter.specs.Blocks.{front, leads, codeBlock, entryBlock, betweenBlock, graph}
 use Rattle.lua51_lifter.specs.Listing.{value, constantLines, statementLine, edgeLine, blockLine, blockLines}
@@ -93,7 +94,7 @@ sample = record {
   words = sample-words;
   kinds = kind-string ∷ kind-nil ∷ [];
   nested = 1 ∷ [];
-  captured = 2 ∷ [];
+  nups = 2 ∷ [];
   lines = [];
   names = 0;
 }
@@ -275,14 +276,14 @@ sample-listing =
     ++ bytes "E      0      0\n"
 
 sample-accepted : check sample ≡ fine
-unfolding sum times opOf row rowOf claims leader firstRefusal headFault lastFault operand operandFault landsInside tests
+unfolding targetOf sum times opOf row rowOf claims leader firstRefusal headFault lastFault operand operandFault landsInside tests
     wordVerdict opener user slot matches unused-results missing-results allCaptures reaches reached useVerdict check sample sample-words
 sample-accepted = refl
 
 sample-listed : listing sample sample-constants ≡ sample-listing
-unfolding flatMap digits decimal column line bytes over sum times opOf row rowOf claims leader blockOf leaderFrom past
+unfolding targetOf flatMap digits decimal column line bytes over sum times opOf row rowOf claims leader blockOf leaderFrom past
     leaving exits entering isLoop thenOf diverted betweenOf count expr exprs tailNumbers run registers rk condition
-    concatenated captures taken opened statementsBy pending statements onThen front leads codeBlock entryBlock
+    concatenated captures taken openResults statementsBy pending statements onThen front leads codeBlock entryBlock
     betweenBlock graph kindOf value constantLines statementLine edgeLine blockLine blockLines listing sample sample-words sample-constants sample-listing
 sample-listed = refl
 
@@ -299,7 +300,7 @@ onward = record {
   words = jumps FORLOOP 0 0 1 ∷ abc RETURN 0 1 0 ∷ [];
   kinds = [];
   nested = [];
-  captured = [];
+  nups = [];
   lines = [];
   names = 0;
 }
@@ -322,8 +323,8 @@ onward-listing =
     ++ bytes "E      0      1\n"
 
 onward-listed : listing onward [] ≡ onward-listing
-unfolding flatMap digits decimal column line bytes over sum times opOf row rowOf claims leader blockOf leaderFrom past
+unfolding targetOf flatMap digits decimal column line bytes over sum times opOf row rowOf claims leader blockOf leaderFrom past
     leaving exits entering isLoop thenOf diverted betweenOf count expr exprs tailNumbers run registers rk condition
-    concatenated captures taken opened statementsBy pending statements onThen front leads codeBlock entryBlock
+    concatenated captures taken openResults statementsBy pending statements onThen front leads codeBlock entryBlock
     betweenBlock graph kindOf value constantLines statementLine edgeLine blockLine blockLines listing onward onward-listing
 onward-listed = refl

@@ -1,13 +1,13 @@
 -- What stands at the front of a block, by the edge that enters it. Assumes nothing.
 use mathlib.Core.Bool.{true, false, cond, _&&_}
-use Rattle.lua51_deserializer.specs.Word.{test-set, TESTSET, numberOf, rowOf, row, opOf}
+use Rattle.lua51_instruction.specs.Word.{test-set, TESTSET, numberOf, rowOf, row, opOf}
 use Prim.Native.Nat.{ℕ, _+_, _-_, _≤_, _<_}
 use native.Mathlib.Omega.{arith}
 use mathlib.Core.Path.{_≡_, refl, sym, _∙_}
 use mathlib.Core.List.{List, [], _++_, append-nil}
 use lib.Dec.{ltb, eqb}
 use borrow.Author.Tests.{ltb-true, ltb-false, eqb-true, eqb-false, lt-ltb, eq-eqb, ne-eqb}
-use Rattle.lua51_deserializer.specs.Proto.{Proto, size, opcode, is, flowAt, word}
+use Rattle.lua51_instruction.specs.Proto.{Proto, size, opcode, is, flowAt, word}
 use Rattle.cfg.specs.Graph.{isLoop, diverted, claims, thenOf, leader, leaving, entering}
 use Rattle.lua51_lifter.specs.Blocks.{front}
 use Rattle.ast.specs.Statement.{Stmt}
@@ -15,11 +15,11 @@ use Rattle.lua51_lifter.specs.Check.{check, fine, reaches}
 use Rattle.cfg.proofs.Entering.{sent, diverted-many, loop-cases, loop-sends, crowd, undiverted-one, entering-at}
 use Rattle.cfg.proofs.Entering.{loop-leads}
 use Rattle.lua51_lifter.specs.Lift.{onThen}
-use Rattle.lua51_deserializer.proofs.Tests.{either-way}
-use Rattle.lua51_deserializer.specs.Range.{times, over, only}
+use Rattle.basics.proofs.Tests.{either-way}
+use Rattle.basics.specs.Range.{times, over, only}
 use Rattle.cfg.proofs.Leaders.{leader-claimed}
-use Rattle.lua51_deserializer.proofs.Table.{flow-is, word-beyond}
-use Rattle.lua51_deserializer.proofs.Range.{over-none, times-here, over-only}
+use Rattle.lua51_instruction.proofs.Table.{flow-is, word-beyond}
+use Rattle.basics.proofs.Range.{over-none, times-here, over-only}
 use Rattle.lua51_lifter.proofs.Accepted.{set-unreached}
 
 module _ (p : Proto) where

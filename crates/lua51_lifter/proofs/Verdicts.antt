@@ -6,8 +6,8 @@ use mathlib.Core.Path.{_≡_, refl, subst}
 use Rattle.lua51_lifter.specs.Check.{refuseIf, Verdict, firstRefusal, fine, _else_, wrong, check, wordVerdict}
 use Rattle.lua51_lifter.specs.Check.{useVerdict, operandFault, headFault, unused-results, lastFault}
 use Rattle.lua51_lifter.specs.Check.{missing-results, landsInside, tests, allCaptures, reached}
-use Rattle.lua51_deserializer.specs.Proto.{Proto, size, flowAt, is, capturesOf}
-use Rattle.lua51_deserializer.specs.Word.{JMP, TESTSET, CLOSURE}
+use Rattle.lua51_instruction.specs.Proto.{Proto, size, flowAt, is, capturesOf}
+use Rattle.lua51_instruction.specs.Word.{JMP, TESTSET, CLOSURE}
 
 pub else-first : (v w : Verdict) → v else w ≡ fine → v ≡ fine
 else-first fine w h = refl

@@ -8,16 +8,17 @@ use lib.Dec.{eqb}
 use lib.ListN.{length, length-append}
 use lib.Seq.{take-all}
 use borrow.Author.Tests.{eqb-true, eqb-false, eq-eqb, ne-eqb}
-use Rattle.lua51_deserializer.specs.Word.{VARARG, CALL, TAILCALL, numberOf, fieldOpcode, fieldA, fieldB}
-use Rattle.lua51_deserializer.specs.Proto.{Proto, size, word, opcode, A, B}
-use Rattle.lua51_deserializer.proofs.Tests.{either-way, clash}
+use Rattle.lua51_instruction.specs.Word.{VARARG, CALL, TAILCALL, numberOf, fieldOpcode, fieldA, fieldB}
+use Rattle.lua51_instruction.specs.Proto.{Proto, size, word, opcode, A, B}
+use Rattle.basics.proofs.Tests.{either-way, clash}
 use Rattle.ast.specs.Statement.{Stmt, register, call, vararg, registers, []ᵉ, expr, exprs, run}
 use Rattle.lua51_lifter.specs.Check.{check, fine, opener, user, slot}
-use Rattle.lua51_lifter.specs.Lift.{opened}
-use Rattle.lua51_lister.specs.Lifted.{lastOf, lineWithin}
+use Rattle.lua51_lifter.specs.Lift.{openResults}
+use Rattle.lua51_calls.specs.Calls.{resultsAlone}
+use Rattle.lua51_statements.specs.Lines.{lineWithin}
 use Rattle.lua51_lifter.specs.Listing.{statementLine}
 use Rattle.lua51_lifter.proofs.Accepted.{user-opener, user-slot}
-use Rattle.lua51_lister.proofs.Open.{opened-vararg, opened-closed, opened-first, link-numbers}
+use Rattle.lua51_calls.proofs.Open.{open-vararg, open-closed, open-first, link-numbers}
 
 -- a run that the buffer holds is printed whole
 pub line-fits : (room : ℕ) (s : Stmt) → length (run s) ≤ room → lineWithin room s ≡ statementLine s
@@ -31,8 +32,8 @@ registers-length r zero = refl
 registers-length r (suc n) = omega (arith, registers-length (r + 1) n)
 
 -- a word that takes no open results itself
-last-length : (w : ℕ) → length (expr (lastOf w)) ≤ 1024
-unfolding lastOf expr
+last-length : (w : ℕ) → length (expr (resultsAlone w)) ≤ 1024
+unfolding resultsAlone expr
 last-length w = go (eqb (fieldOpcode w) (numberOf VARARG))
   where
     go : (b : Bool) → length (expr (cond b vararg (call (register (fieldA w)) (registers (fieldA w + 1) (fieldB w - 1) []ᵉ)))) ≤ 1024
@@ -50,13 +51,13 @@ module _ (p : Proto) (ok : check p ≡ fine) where
       (λ t. clash o (rw (c, t, ne-eqb (opcode p j) (numberOf VARARG) not))))
 
   -- the two kinds of word that end a chain
-  ended : (j : ℕ) → opened p j ≡ lastOf (word p j) → length (expr (opened p j)) ≤ 4 * (256 - A p j) + 1024
+  ended : (j : ℕ) → openResults p j ≡ resultsAlone (word p j) → length (expr (openResults p j)) ≤ 4 * (256 - A p j) + 1024
   ended j e = rw e (omega (arith, last-length (word p j)))
 
   -- a link of a chain: A rises by more than the registers between
   linked : (j : ℕ) → suc j < size p → opener p (suc j) ≡ true → (opcode p (suc j) ≡ numberOf VARARG → ⊥) → B p (suc j) ≡ 0
-      → (opener p j ≡ true → length (expr (opened p j)) ≤ 4 * (256 - A p j) + 1024)
-      → length (expr (opened p (suc j))) ≤ 4 * (256 - A p (suc j)) + 1024
+      → (opener p j ≡ true → length (expr (openResults p j)) ≤ 4 * (256 - A p j) + 1024)
+      → length (expr (openResults p (suc j))) ≤ 4 * (256 - A p (suc j)) + 1024
   linked j lt o not none before =
       let takes = opener-takes (suc j) o not none in
       let back : suc j - 1 ≡ j = omega arith in
@@ -65,13 +66,13 @@ module _ (p : Proto) (ok : check p ≡ fine) where
       rw (link-numbers p j not none, length-append) (omega (arith, rest, rises, registers-length (A p (suc j) + 1) (A p j - (A p (suc j) + 1))))
 
   -- the open results of word j
-  pub open-length : (j : ℕ) → j < size p → opener p j ≡ true → length (expr (opened p j)) ≤ 4 * (256 - A p j) + 1024
-  open-length zero lt o = ended zero (opened-first p)
+  pub open-length : (j : ℕ) → j < size p → opener p j ≡ true → length (expr (openResults p j)) ≤ 4 * (256 - A p j) + 1024
+  open-length zero lt o = ended zero (open-first p)
   open-length (suc j) lt o = either-way (eqb (opcode p (suc j)) (numberOf VARARG))
-      (λ v. ended (suc j) (opened-vararg p (suc j) (eqb-true (opcode p (suc j)) (numberOf VARARG) v)))
+      (λ v. ended (suc j) (open-vararg p (suc j) (eqb-true (opcode p (suc j)) (numberOf VARARG) v)))
       (λ v. either-way (eqb (B p (suc j)) 0)
       (λ b. linked j lt o (eqb-false (opcode p (suc j)) (numberOf VARARG) v) (eqb-true (B p (suc j)) 0 b) (λ h. open-length j (omega arith) h))
-      (λ b. ended (suc j) (opened-closed p (suc j) (positive-of (eqb-false (B p (suc j)) 0 b)))))
+      (λ b. ended (suc j) (open-closed p (suc j) (positive-of (eqb-false (B p (suc j)) 0 b)))))
     where
       positive-of : (B p (suc j) ≡ 0 → ⊥) → 0 < B p (suc j)
       positive-of ne = omega arith

@@ -1,10 +1,3 @@
-pub mod Operands
-pub mod Arms
-pub mod Operations
-pub mod Open
-pub mod Captures
-pub mod Counts
-pub mod Prints
+pub mod Pending
 pub mod Fits
 pub mod Runs
-pub mod ConstantLines

@@ -7,20 +7,23 @@ use native.Mathlib.Omega.{arith}
 use lib.Dec.{eqb, ltb}
 use lib.ListN.{length, length-append}
 use borrow.Author.Tests.{eqb-true, eqb-false, eq-eqb}
-use Rattle.lua51_deserializer.specs.Word.{Op, MOVE, LOADK, LOADBOOL, LOADNIL, GETUPVAL, GETGLOBAL, GETTABLE, SETGLOBAL, SETUPVAL, SETTABLE, NEWTABLE, SELF, ADD, SUB, MUL, DIV, MOD, POW, UNM, NOT, LEN, CONCAT, JMP, EQ, LT, LE, TEST, TESTSET, CALL, TAILCALL, RETURN, FORLOOP, FORPREP, TFORLOOP, SETLIST, CLOSE, CLOSURE, VARARG, UNKNOWN, opOf, numberOf}
-use Rattle.lua51_deserializer.specs.Range.{over, only}
-use Rattle.lua51_deserializer.specs.Proto.{Proto, is, size, opcode, opAt, A, B, C, closureOf, capturesOf}
-use Rattle.lua51_deserializer.proofs.Tests.{either-way}
-use Rattle.lua51_deserializer.proofs.Table.{allBelow, all-below}
+use Rattle.lua51_instruction.specs.Word.{Op, MOVE, LOADK, LOADBOOL, LOADNIL, GETUPVAL, GETGLOBAL, GETTABLE, SETGLOBAL, SETUPVAL, SETTABLE, NEWTABLE, SELF, ADD, SUB, MUL, DIV, MOD, POW, UNM, NOT, LEN, CONCAT, JMP, EQ, LT, LE, TEST, TESTSET, CALL, TAILCALL, RETURN, FORLOOP, FORPREP, TFORLOOP, SETLIST, CLOSE, CLOSURE, VARARG, UNKNOWN, opOf, numberOf}
+use Rattle.basics.specs.Range.{over, only}
+use Rattle.lua51_instruction.specs.Proto.{Proto, is, size, opcode, opAt, A, B, C, closureOf, capturesOf}
+use Rattle.basics.proofs.Tests.{either-way}
+use Rattle.lua51_instruction.proofs.Table.{allBelow, all-below}
 use Rattle.ast.specs.Statement.{Stmt, Expr, register, constant, index, binary, unary, select, vararg, call, nil, op-not, []ᵉ, one, registers, close, assign, set-register, if-statement, count, expr, exprs, run, tailNumbers, Tail, no-tail, open-tail, set-list}
 use Rattle.lua51_lifter.specs.Check.{check, fine, user}
-use Rattle.lua51_lifter.specs.Lift.{pending, statements, onThen, operation, comparison, rk, condition, concatenated, captures, opened, taken, callWith, tailFor, statementsBy}
-use Rattle.lua51_lister.specs.Lifted.{lineWithin, runAt, given, below, counted, listed}
+use Rattle.lua51_lifter.specs.Lift.{pending, statements, onThen, operation, comparison, rk, condition, concatenated, captures, openResults, taken, callWith, tailFor, statementsBy}
+use Rattle.lua51_statements.specs.Lines.{lineWithin, ownStatements}
+use Rattle.lua51_runs.specs.Runs.{runAt, listed}
+use Rattle.lua51_calls.specs.Calls.{below, counted}
 use Rattle.lua51_lifter.proofs.Accepted.{user-opener, opcode-known}
-use Rattle.lua51_lister.proofs.Arms.{each-length, each-at, set-numbers, assign-numbers}
-use Rattle.lua51_lister.proofs.Captures.{closure-numbers, first-capture}
-use Rattle.lua51_lister.proofs.Prints.{pieces-append}
-use Rattle.lua51_lister.proofs.Open.{taken-closed, taken-open, tail-numbers, list-numbers}
+use Rattle.basics.proofs.Range.{over-length, over-at}
+use Rattle.lua51_runs.proofs.Assigned.{set-numbers, assign-numbers, list-numbers}
+use Rattle.lua51_runs.proofs.Captured.{closure-numbers, first-capture}
+use Rattle.lua51_statements.proofs.Pieces.{pieces-append}
+use Rattle.lua51_calls.proofs.Open.{taken-closed, taken-open, tail-numbers}
 use Rattle.lua51_lister.proofs.Fits.{line-fits, registers-length, open-length}
 use Rattle.lua51_lifter.specs.Listing.{statementLine}
 
@@ -66,10 +69,10 @@ rk-length x = go (ltb 255 x)
     go true = refl
     go false = refl
 
-joined-length : (r n : ℕ) → length (expr (concatenated r n)) ≡ 4 * n + 2
+concatenated-length : (r n : ℕ) → length (expr (concatenated r n)) ≡ 4 * n + 2
 unfolding concatenated expr
-joined-length r zero = refl
-joined-length r (suc n) = omega (arith, joined-length (r + 1) n)
+concatenated-length r zero = refl
+concatenated-length r (suc n) = omega (arith, concatenated-length (r + 1) n)
 
 captures-length : (p : Proto) (i n : ℕ) → length (exprs (captures p i n)) ≡ 2 * n
 unfolding captures exprs
@@ -117,12 +120,12 @@ list-length a c n t =
     ap length (list-numbers a c n t) ∙ (length-append (listed a c n) (tailNumbers t) ∙ omega (arith, registers-length (a + 1) n))
 
 module _ (p : Proto) (ok : check p ≡ fine) (i : ℕ) (lt : i < size p) (stack : p .stack ≤ 255) (caps : capturesOf p i ≤ 255) where
-  open-short : user p i ≡ true → length (expr (opened p (i - 1))) ≤ 2048
+  open-short : user p i ≡ true → length (expr (openResults p (i - 1))) ≤ 2048
   open-short u = omega (arith, open-length p ok (i - 1) (omega arith) (user-opener p ok i lt u))
 
   -- what a word takes
-  open-numbers : (slot : ℕ) → B p i ≡ 0 → counted (taken p i slot (tailFor p i)) ≡ below slot (A p (i - 1)) ++ expr (opened p (i - 1))
-  open-numbers slot none = rw (taken-open p i slot (tailFor p i) none) (tail-numbers p slot (A p (i - 1)) (opened p (i - 1)))
+  open-numbers : (slot : ℕ) → B p i ≡ 0 → counted (taken p i slot (tailFor p i)) ≡ below slot (A p (i - 1)) ++ expr (openResults p (i - 1))
+  open-numbers slot none = rw (taken-open p i slot (tailFor p i) none) (tail-numbers p slot (A p (i - 1)) (openResults p (i - 1)))
 
   taken-length : (slot : ℕ) → (B p i ≡ 0 → user p i ≡ true) → length (counted (taken p i slot (tailFor p i))) ≤ 2559
   taken-length slot u = either-way (eqb (B p i) 0)
@@ -130,7 +133,7 @@ module _ (p : Proto) (ok : check p ≡ fine) (i : ℕ) (lt : i < size p) (stack 
       omega (
         arith,
         ap length (open-numbers slot none),
-        length-append (below slot (A p (i - 1))) (expr (opened p (i - 1))),
+        length-append (below slot (A p (i - 1))) (expr (openResults p (i - 1))),
         open-short (u none),
         registers-length slot (A p (i - 1) - slot),
       ))
@@ -170,15 +173,15 @@ module _ (p : Proto) (ok : check p ≡ fine) (i : ℕ) (lt : i < size p) (stack 
   unfolding expr
   fit-index = omega (arith, set-length (A p i) (index (register (B p i)) (rk (C p i))), index-length (register (B p i)) (rk (C p i)), rk-length (C p i))
 
-  fit-targets : (r n : ℕ) (x : Expr) → n ≤ 511 → length (expr x) ≤ 2600 → length (run (assign (registers r n []ᵉ) (one x))) ≤ room
-  fit-targets r n x h g = rw (assign-numbers r n x, length-append) (omega (arith, registers-length r n))
+  fit-lefts : (r n : ℕ) (x : Expr) → n ≤ 511 → length (expr x) ≤ 2600 → length (run (assign (registers r n []ᵉ) (one x))) ≤ room
+  fit-lefts r n x h g = rw (assign-numbers r n x, length-append) (omega (arith, registers-length r n))
 
   fits-by : (o : Op) → opcode p i ≡ numberOf o → Fit (statementsBy p i o)
   unfolding statementsBy run count exprs expr tailNumbers
   fits-by MOVE n = fit-one _ (omega arith)
   fits-by LOADK n = fit-one _ (omega arith)
   fits-by LOADBOOL n = fit-one _ (omega arith)
-  fits-by LOADNIL n = λ k h. rw (each-at (λ r. set-register r nil) (close []) (A p i) (B p i + 1 - A p i) k (rw (each-length (λ r. set-register r nil) (A p i) (B p i + 1 - A p i)) at h)) (omega arith)
+  fits-by LOADNIL n = λ k h. rw (over-at (λ r. set-register r nil) (A p i) (B p i + 1 - A p i) k (close []) (rw (over-length (λ r. set-register r nil) (A p i) (B p i + 1 - A p i)) at h)) (omega arith)
   fits-by GETUPVAL n = fit-one _ (omega arith)
   fits-by GETGLOBAL n = fit-one _ (omega arith)
   fits-by GETTABLE n = fit-one _ fit-index
@@ -196,7 +199,7 @@ module _ (p : Proto) (ok : check p ≡ fine) (i : ℕ) (lt : i < size p) (stack 
   fits-by UNM n = fit-one _ (omega arith)
   fits-by NOT n = fit-one _ (omega arith)
   fits-by LEN n = fit-one _ (omega arith)
-  fits-by CONCAT n = fit-one _ (omega (arith, set-length (A p i) (concatenated (B p i) (C p i - B p i)), joined-length (B p i) (C p i - B p i)))
+  fits-by CONCAT n = fit-one _ (omega (arith, set-length (A p i) (concatenated (B p i) (C p i - B p i)), concatenated-length (B p i) (C p i - B p i)))
   fits-by JMP n = fit-none
   fits-by EQ n = fit-comparison 8
   fits-by LT n = fit-comparison 10
@@ -207,39 +210,35 @@ module _ (p : Proto) (ok : check p ≡ fine) (i : ℕ) (lt : i < size p) (stack 
       fit-cond (eqb (C p i) 0) _ _ (λ e. fit-none)
       (λ e. fit-cond (eqb (C p i) 1) _ _
       (λ d. fit-one _ (omega (arith, call-length (user-call n))))
-      (λ d. fit-one _ (fit-targets (A p i) (C p i - 1) (select (callWith p i (tailFor p i))) (omega arith) (omega (arith, call-length (user-call n))))))
+      (λ d. fit-one _ (fit-lefts (A p i) (C p i - 1) (select (callWith p i (tailFor p i))) (omega arith) (omega (arith, call-length (user-call n))))))
   fits-by TAILCALL n = fit-none
   fits-by RETURN n = fit-one _ (omega (arith, taken-length (A p i) (user-return n)))
   fits-by FORLOOP n = fit-one _ (omega arith)
   fits-by FORPREP n = fit-one _ (omega arith)
   fits-by TFORLOOP n =
       fit-two _ _
-      (fit-targets (A p i + 3) (C p i) (call (register (A p i)) (registers (A p i + 1) 2 []ᵉ)) (omega arith) (omega (arith, registers-length (A p i + 1) 2)))
+      (fit-lefts (A p i + 3) (C p i) (call (register (A p i)) (registers (A p i + 1) 2 []ᵉ)) (omega arith) (omega (arith, registers-length (A p i + 1) 2)))
       (omega arith)
   fits-by SETLIST n =
       fit-cond (eqb (B p i) 0) _ _
-      (λ e. fit-one _ (omega (arith, list-length (A p i) (C p i) (A p (i - 1) - (A p i + 1)) (open-tail (opened p (i - 1))), open-short (user-list n (eqb-true (B p i) 0 e)))))
+      (λ e. fit-one _ (omega (arith, list-length (A p i) (C p i) (A p (i - 1) - (A p i + 1)) (open-tail (openResults p (i - 1))), open-short (user-list n (eqb-true (B p i) 0 e)))))
       (λ e. fit-one _ (omega (arith, list-length (A p i) (C p i) (B p i) no-tail)))
-  fits-by CLOSE n = fit-one _ (omega (arith, each-length (λ r. r) (A p i) (p .stack - A p i)))
+  fits-by CLOSE n = fit-one _ (omega (arith, over-length (λ r. r) (A p i) (p .stack - A p i)))
   fits-by CLOSURE n = fit-one _ (omega (arith, ap length (closure-numbers (A p i) (closureOf p i) (captures p i (capturesOf p i))), captures-length p i (capturesOf p i)))
   fits-by VARARG n =
       fit-cond (eqb (B p i) 0) _ _ (λ e. fit-none)
-      (λ e. fit-one _ (fit-targets (A p i) (B p i - 1) (select vararg) (omega arith) (omega arith)))
+      (λ e. fit-one _ (fit-lefts (A p i) (B p i - 1) (select vararg) (omega arith) (omega arith)))
   fits-by UNKNOWN n = fit-none
 
   -- each statement of word i
-  pub runs-fit : Fit (given p i)
+  pub runs-fit : Fit (ownStatements p i)
   runs-fit = fits-by (opAt p i) (number-back (opcode p i) (opcode-known p ok i lt))
 
-  -- in a buffer of 4,096 numbers or more each of its S lines is whole
-  pub lines-whole : (n : ℕ) → room ≤ n → flatMap (lineWithin n) (given p i) ≡ flatMap statementLine (given p i)
-  lines-whole n h = fit-lines n h (given p i) runs-fit
-
-  -- a capture's none
+  -- in a buffer of 4,096 numbers or more each of its S lines is whole; a capture has none
   statements-whole : (n : ℕ) → room ≤ n → flatMap (lineWithin n) (statements p i) ≡ flatMap statementLine (statements p i)
   unfolding statements
-  statements-whole n h = fit-lines n h (cond (ltb 0 (pending p i)) [] (given p i))
-      (fit-cond (ltb 0 (pending p i)) [] (given p i) (λ e. fit-none) (λ e. runs-fit))
+  statements-whole n h = fit-lines n h (cond (ltb 0 (pending p i)) [] (ownStatements p i))
+      (fit-cond (ltb 0 (pending p i)) [] (ownStatements p i) (λ e. fit-none) (λ e. runs-fit))
 
 -- the S lines of a block's words
 pub body-whole : (p : Proto) → check p ≡ fine → p .stack ≤ 255 → ((i : ℕ) → capturesOf p i ≤ 255)

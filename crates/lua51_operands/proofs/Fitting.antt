@@ -5,9 +5,9 @@ use mathlib.Core.Path.{_≡_, refl, sym, _∙_}
 use native.Mathlib.Omega.{arith}
 use lib.Dec.{leb, ltb}
 use borrow.Author.Tests.{ltb-true, ltb-false, lt-ltb, le-ltb, leb-false}
-use Rattle.lua51_deserializer.proofs.Tests.{either-way}
-use Rattle.lua51_deserializer.specs.Argument.{registerOrConstant}
-use Rattle.lua51_deserializer.specs.declared.argument.RegisterOrConstant.the-variants.{Register, Constant}
+use Rattle.basics.proofs.Tests.{either-way}
+use Rattle.lua51_instruction.specs.Argument.{registerOrConstant}
+use Rattle.lua51_instruction.specs.declared.argument.RegisterOrConstant.the-variants.{Register, Constant}
 
 -- ------------------------------------------------------------ numbers
 

@@ -5,18 +5,19 @@ ghost use mathlib.Core.List.{List};
 ghost use Prim.Native.Nat.{ℕ, _-_, _/_, _%_};
 ghost use lib.Dec.{ltb, eqb};
 ghost use lib.ListN.{length, getD};
-ghost use Rattle.lua51_deserializer.specs.Chunk.{kind-string};
-ghost use Rattle.lua51_deserializer.specs.Instruction.{kindMeant, Decodes};
-ghost use Rattle.lua51_deserializer.specs.Proto.{Proto};
+ghost use Rattle.lua51_value.specs.Value.{kind-string};
+ghost use Rattle.lua51_instruction.specs.Instruction.{kindMeant, Decodes};
+ghost use Rattle.lua51_instruction.specs.Proto.{Proto};
 ghost use Rattle.lua51_function.specs.Function.{Stands};
 ghost use Rattle.lua51_lifter.specs.Check.{operand, operandFault};
-use lua51_deserializer::argument::RegisterOrConstant;
-use lua51_deserializer::argument::register_or_constant;
-use lua51_deserializer::bytes::byte_at;
-use lua51_deserializer::instruction::Instruction;
-use lua51_deserializer::instruction::Kind;
-use lua51_deserializer::instruction::OPCODES;
+use basics::slices::byte_at;
 use lua51_function::function::Head;
+use lua51_instruction::argument::RegisterOrConstant;
+use lua51_instruction::argument::register_or_constant;
+use lua51_instruction::instruction::Instruction;
+use lua51_instruction::instruction::Kind;
+use lua51_instruction::instruction::OPCODES;
+use lua51_value::value::KIND_STRING;
 
 // ------------------------------------------------------------ flags
 
@@ -50,9 +51,6 @@ pub fn needs_arg(flags: u8) -> bool
 }
 
 // ------------------------------------------------------------ kinds
-
-// The kind of a constant that is a string.
-const KIND_STRING: u8 = 4;
 
 // The largest flag of a test or of LOADBOOL.
 const MOST_FLAG: u32 = 1;

@@ -5,10 +5,10 @@ use mathlib.Core.List.{List, [], _∷_}
 use mathlib.Core.Path.{_≡_, refl}
 use denote.Enum.Declared.{tagOf}
 use types.Run.{OneOf, miss}
-use Rattle.lua51_deserializer.specs.Instruction.{flowMeant}
-use Rattle.lua51_deserializer.specs.declared.instruction.Flow.{Flow}
-use Rattle.lua51_deserializer.specs.declared.instruction.Flow.the-variants.{Straight, Skip, Jump as Jumps, Test, TestSet, LoopEntry, NumericLoop, GenericLoop, Exit}
-use Rattle.lua51_deserializer.proofs.instruction.Flow.{the-type}
+use Rattle.lua51_instruction.specs.Instruction.{flowMeant}
+use Rattle.lua51_instruction.specs.declared.instruction.Flow.{Flow}
+use Rattle.lua51_instruction.specs.declared.instruction.Flow.the-variants.{Straight, Skip, Jump as Jumps, Test, TestSet, LoopEntry, NumericLoop, GenericLoop, Exit}
+use Rattle.lua51_instruction.proofs.instruction.Flow.{the-type}
 use Rattle.lua51_lifter.specs.Check.{tests}
 
 -- the numbers of the flows that ask nothing

@@ -1,16 +1,21 @@
 -- What the target or skip of a word says of refusals 10 and 14. Assumes nothing.
-use Prim.Native.Nat.{ℕ, _+_, _-_}
-use mathlib.Core.Bool.{Bool, true, false, cond, _&&_, _||_}
+use Prim.Native.Nat.{ℕ, _+_, _<_, _≤_}
+use native.Mathlib.Omega.{arith}
+use mathlib.Core.Bool.{Bool, true, false, cond, _||_}
 use mathlib.Core.List.{List, []}
 use mathlib.Core.Path.{_≡_, refl}
-use lib.Dec.{leb, ltb, eqb}
-use Rattle.lua51_deserializer.specs.Range.{only}
-use Rattle.lua51_deserializer.specs.Word.{Flow, straight, skip, jump, test, test-set, loop-entry, numeric-loop, generic-loop, exit, fieldBx, bias}
-use Rattle.lua51_deserializer.specs.Proto.{Proto, size, word, C}
-use Rattle.lua51_deserializer.specs.Instruction.{targetOf}
-use Rattle.lua51_deserializer.specs.declared.instruction.Target.the-variants.{To as to, Outside as outside}
+use lib.Dec.{ltb, eqb}
+use borrow.Author.Tests.{ltb-true, ltb-false, ne-eqb}
+use Rattle.basics.specs.Range.{only, times}
+use Rattle.basics.proofs.Tests.{clash, either-way}
+use Rattle.lua51_instruction.specs.Word.{Flow, straight, skip, jump, test, test-set, loop-entry, numeric-loop, generic-loop, exit}
+use Rattle.lua51_instruction.specs.Jump.{isWord, wordOr}
+use Rattle.lua51_instruction.specs.Proto.{Proto, size, word, C, targetAt}
+use Rattle.lua51_instruction.specs.declared.instruction.Target.{Target}
+use Rattle.lua51_instruction.specs.declared.instruction.Target.the-variants as target
+use Rattle.lua51_instruction.proofs.Targets.{target-below}
 use Rattle.lua51_lifter.specs.Check.{landsInside, reaches}
-use Rattle.lua51_reach.specs.Targets.{skipOf, jumpOf, reachBy, reachOf}
+use Rattle.lua51_reach.specs.Targets.{skipOf, reachBy, reachOf}
 use Rattle.lua51_reach.specs.declared.reach.Reach.{Reach}
 use Rattle.lua51_reach.specs.declared.reach.Reach.the-variants.{Nowhere, To, Outside}
 
@@ -26,35 +31,14 @@ wordOf Nowhere = []
 wordOf (To t) = only t
 wordOf Outside = []
 
-module _ (i n : ℕ) where
-  skip-inside : ltb (i + 2) n ≡ inside (skipOf i n)
-  skip-inside = by (ltb (i + 2) n)
-    where
-      by : (b : Bool) → b ≡ inside (cond b (To (i + 2)) Outside)
-      by true = refl
-      by false = refl
+-- ------------------------------------------------------------ refusal 10
 
-  skip-to : ltb (i + 2) n ≡ true → only (i + 2) ≡ wordOf (skipOf i n)
-  skip-to h = rw h
+skip-inside : (i n : ℕ) → ltb (i + 2) n ≡ inside (skipOf i n)
+skip-inside i n = either-way (ltb (i + 2) n) (λ h. rw h) (λ h. rw h)
 
-  module _ (w : ℕ) where
-    jump-inside : leb bias (i + 1 + fieldBx w) && ltb (i + 1 + fieldBx w - bias) n ≡ inside (jumpOf i n w)
-    unfolding targetOf
-    jump-inside = by (leb bias (i + 1 + fieldBx w)) (ltb (i + 1 + fieldBx w - bias) n)
-      where
-        by : (a b : Bool) → a && b ≡ inside (reachBy (cond a (cond b (to (i + 1 + fieldBx w - bias)) outside) outside))
-        by true true = refl
-        by true false = refl
-        by false b = refl
-
-    jump-to : leb bias (i + 1 + fieldBx w) && ltb (i + 1 + fieldBx w - bias) n ≡ true → only (i + 1 + fieldBx w - bias) ≡ wordOf (jumpOf i n w)
-    unfolding targetOf
-    jump-to = by (leb bias (i + 1 + fieldBx w)) (ltb (i + 1 + fieldBx w - bias) n)
-      where
-        by : (a b : Bool) → a && b ≡ true → only (i + 1 + fieldBx w - bias) ≡ wordOf (reachBy (cond a (cond b (to (i + 1 + fieldBx w - bias)) outside) outside))
-        by true true h = refl
-        by true false h = cc
-        by false b h = cc
+jump-inside : (t : Target) → isWord t ≡ inside (reachBy t)
+jump-inside (target.To t) = refl
+jump-inside target.Outside = refl
 
 module _ (p : Proto) (i : ℕ) where
   pub lands-by : (f : Flow) → landsInside p i f ≡ inside (reachOf p i f)
@@ -65,26 +49,59 @@ module _ (p : Proto) (i : ℕ) where
       by : (b : Bool) → b || ltb (i + 2) (size p) ≡ inside (cond b Nowhere (skipOf i (size p)))
       by true = refl
       by false = skip-inside i (size p)
-  lands-by jump = jump-inside i (size p) (word p i)
+  lands-by jump = jump-inside (targetAt p i)
   lands-by test = skip-inside i (size p)
   lands-by test-set = skip-inside i (size p)
-  lands-by loop-entry = jump-inside i (size p) (word p i)
-  lands-by numeric-loop = jump-inside i (size p) (word p i)
+  lands-by loop-entry = jump-inside (targetAt p i)
+  lands-by numeric-loop = jump-inside (targetAt p i)
   lands-by generic-loop = skip-inside i (size p)
   lands-by exit = refl
 
-  pub reaches-by : (f : Flow) → landsInside p i f ≡ true → reaches p i f ≡ wordOf (reachOf p i f)
-  unfolding landsInside reaches reachOf
-  reaches-by straight h = refl
-  reaches-by skip h = by (eqb (C p i) 0) h
+-- ------------------------------------------------------------ refusal 14
+
+-- where a word of n leads, and what it has as its target or skip: nothing, a word, or one that is outside
+pub data Led (n : ℕ) : Reach → List ℕ → Type 0 where
+  nowhere : Led n Nowhere []
+  to : {t : ℕ} → t < n → Led n (To t) (only t)
+  outside : {t : ℕ} → n ≤ t → Led n Outside (only t)
+
+skip-led : (i n : ℕ) → Led n (skipOf i n) (only (i + 2))
+skip-led i n = either-way (ltb (i + 2) n) (λ h. rw h (to (ltb-true (i + 2) n h))) (λ h. rw h (outside (ltb-false (i + 2) n h)))
+
+jump-led : (n : ℕ) (t : Target) → (isWord t ≡ true → wordOr n t < n) → Led n (reachBy t) (only (wordOr n t))
+jump-led n (target.To t) h = to (h refl)
+jump-led n target.Outside h = outside {t = n} (omega arith)
+
+module _ (p : Proto) (i : ℕ) where
+  by-jump : Led (size p) (reachBy (targetAt p i)) (only (wordOr (size p) (targetAt p i)))
+  by-jump = jump-led (size p) (targetAt p i) (target-below i (size p) (word p i))
+
+  pub led-by : (f : Flow) → Led (size p) (reachOf p i f) (reaches p i f)
+  unfolding reachOf reaches
+  led-by straight = nowhere
+  led-by skip = by (eqb (C p i) 0)
     where
-      by : (b : Bool) → b || ltb (i + 2) (size p) ≡ true → cond b [] (only (i + 2)) ≡ wordOf (cond b Nowhere (skipOf i (size p)))
-      by true g = refl
-      by false g = skip-to i (size p) g
-  reaches-by jump h = jump-to i (size p) (word p i) h
-  reaches-by test h = skip-to i (size p) h
-  reaches-by test-set h = skip-to i (size p) h
-  reaches-by loop-entry h = jump-to i (size p) (word p i) h
-  reaches-by numeric-loop h = jump-to i (size p) (word p i) h
-  reaches-by generic-loop h = skip-to i (size p) h
-  reaches-by exit h = refl
+      by : (b : Bool) → Led (size p) (cond b Nowhere (skipOf i (size p))) (cond b [] (only (i + 2)))
+      by true = nowhere
+      by false = skip-led i (size p)
+  led-by jump = by-jump
+  led-by test = skip-led i (size p)
+  led-by test-set = skip-led i (size p)
+  led-by loop-entry = by-jump
+  led-by numeric-loop = by-jump
+  led-by generic-loop = skip-led i (size p)
+  led-by exit = nowhere
+
+-- among the words of the function, the two are the same
+pub led-times : {n : ℕ} {r : Reach} {xs : List ℕ} → Led n r xs → (j : ℕ) → times j (wordOf r) ≡ cond (ltb j n) (times j xs) 0
+unfolding times
+led-times {n} nowhere j = either-way (ltb j n) (λ h. rw h) (λ h. rw h)
+led-times {n} (to {t} l) j = either-way (ltb j n) (λ h. rw h) (λ h. rw (h, ne-eqb j t (λ e. omega (arith, ltb-false j n h))))
+led-times {n} (outside {t} l) j = either-way (ltb j n) (λ h. rw (h, ne-eqb j t (λ e. omega (arith, ltb-true j n h)))) (λ h. rw h)
+
+-- what is not outside is not n
+pub led-before : {n : ℕ} {r : Reach} {xs : List ℕ} → Led n r xs → inside r ≡ true → times n xs ≡ 0
+unfolding times
+led-before nowhere h = refl
+led-before {n} (to {t} l) h = rw (ne-eqb n t (λ e. omega arith))
+led-before (outside l) h = clash h refl

@@ -2,17 +2,17 @@
 ghost use mathlib.Core.Path.{_≡_};
 ghost use Prim.Native.Nat.{ℕ, _+_};
 ghost use lib.ListN.{getD};
-ghost use Rattle.lua51_deserializer.specs.Proto.{Proto};
+ghost use Rattle.lua51_instruction.specs.Proto.{Proto};
 ghost use Rattle.lua51_lifter.specs.Check.{opener, user, slot, matches};
-use lua51_deserializer::instruction::a_of;
-use lua51_deserializer::instruction::b_of;
-use lua51_deserializer::instruction::c_of;
-use lua51_deserializer::instruction::opcode_of;
-use lua51_operands::words::CALL;
-use lua51_operands::words::RETURN;
-use lua51_operands::words::SETLIST;
-use lua51_operands::words::TAILCALL;
-use lua51_operands::words::VARARG;
+use lua51_instruction::instruction::a_of;
+use lua51_instruction::instruction::b_of;
+use lua51_instruction::instruction::c_of;
+use lua51_instruction::instruction::opcode_of;
+use lua51_instruction::op::CALL;
+use lua51_instruction::op::RETURN;
+use lua51_instruction::op::SETLIST;
+use lua51_instruction::op::TAILCALL;
+use lua51_instruction::op::VARARG;
 
 // Whether a word leaves its results open.
 pub fn opens(word: u32) -> bool

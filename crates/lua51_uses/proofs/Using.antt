@@ -2,18 +2,25 @@
 use Prim.Native.Nat.{ℕ, _+_, _-_, _<_, _≤_}
 use native.Mathlib.Omega.{arith}
 use mathlib.Core.Bool.{Bool, true, false, not, _&&_, _||_}
+use mathlib.Core.List.{List}
 use mathlib.Core.Path.{_≡_, refl, sym, ap, _∙_}
 use lib.Dec.{eqb, leb}
+use lib.ListN.{getD, length}
 use borrow.Author.Tests.{lt-ltb, eqb-true, eqb-false}
-use Rattle.lua51_deserializer.proofs.Tests.{or-left, or-right, not-not}
-use Rattle.lua51_deserializer.proofs.Table.{word-beyond}
+use Rattle.basics.proofs.Tests.{or-left, or-right, not-not}
+use Rattle.lua51_instruction.proofs.Table.{word-beyond}
 use Rattle.cfg.proofs.Leaders.{end-leads}
-use Rattle.lua51_deserializer.specs.Word.{RETURN, CLOSURE, TESTSET, numberOf}
-use Rattle.lua51_deserializer.specs.Proto.{Proto, size, is, A, flowAt, opcode, capturesOf}
+use Rattle.lua51_instruction.specs.Word.{RETURN, CLOSURE, TESTSET, numberOf, fieldOpcode}
+use Rattle.lua51_instruction.specs.Proto.{Proto, size, word, is, A, flowAt, opcode, capturesOf}
 use Rattle.cfg.specs.Graph.{leader}
-use Rattle.lua51_lifter.specs.Check.{user, opener, slot, missing-results, unused-results, allCaptures, landsInside, reached, lastFault, useVerdict, fine, wrong, Verdict, firstRefusal, wordVerdict, refuseIf, _else_, headFault, operandFault, check}
+use Rattle.cfg.specs.Arrays.{mark}
+use Rattle.basics.specs.Range.{table}
+use Rattle.basics.proofs.Tables.{table-at}
+use Rattle.lua51_reach.specs.Targets.{Marked}
+use Rattle.lua51_reach.proofs.Marking.{mark-says}
+use Rattle.lua51_lifter.specs.Check.{user, opener, slot, matches, missing-results, unused-results, allCaptures, landsInside, reached, lastFault, useVerdict, fine, wrong, Verdict, firstRefusal, wordVerdict, refuseIf, _else_, headFault, operandFault, check}
 use Rattle.lua51_lifter.proofs.Verdicts.{else-first, else-then, refused-not, first-all}
-use Rattle.lua51_uses.specs.Judgement.{checkWords}
+use Rattle.lua51_uses.specs.Judgement.{checkWords, Surveyed}
 
 -- ------------------------------------------------------------ open results
 
@@ -21,15 +28,26 @@ and-true : (b : Bool) → b ≡ b && true
 and-true true = refl
 and-true false = refl
 
+-- a word that was read is the function's
+pub word-read : (p : Proto) (ws : List ℕ) (i w : ℕ) → p .words ≡ ws → w ≡ getD ws i 0 → word p i ≡ w
+word-read p ws i w e h = rw e (sym h)
+
 module _ (p : Proto) (i : ℕ) where
   -- word 0 has no word before it
   pub first-missing : i ≡ 0 → user p i ≡ missing-results p i
   unfolding missing-results
   first-missing h = rw h (and-true (user p 0))
 
-  pub later-missing : 0 < i → (user p i && not (opener p (i - 1) && not (leader p i) && leb (slot p i) (A p (i - 1)))) ≡ missing-results p i
+  pub later-missing : {takes opens leads : Bool} {first kept : ℕ} → 0 < i → takes ≡ user p i → opens ≡ opener p (i - 1)
+      → leads ≡ leader p i → first ≡ slot p i → kept ≡ A p (i - 1)
+      → (takes && not (opens && not leads && leb first kept)) ≡ missing-results p i
   unfolding missing-results
-  later-missing h = rw (lt-ltb 0 i h)
+  later-missing h t o l f k = rw (lt-ltb 0 i h) (λ j. t j && not (o j && not (l j) && leb (f j) (k j)))
+
+  pub results-left : {opens takes leads fits : Bool} → opens ≡ opener p i → takes ≡ user p (i + 1) → leads ≡ leader p (i + 1)
+      → fits ≡ matches p i → (opens && not (takes && not leads && fits)) ≡ unused-results p i
+  unfolding unused-results
+  results-left o t l f = λ j. o j && not (t j && not (l j) && f j)
 
 -- ------------------------------------------------------------ the verdict on a word among the others
 
@@ -39,6 +57,20 @@ unfolding lastFault
 last-leads p h =
     end-leads p (omega (arith, eqb-false (size p) 0 (or-left (eqb (size p) 0) _ h)))
     (eqb-true (opcode p (size p - 1)) (numberOf RETURN) (not-not _ (or-right (eqb (size p) 0) _ h)))
+
+-- both tests of 12
+pub either-results : {a b c d : Bool} → a ≡ b → c ≡ d → (a || c) ≡ (b || d)
+either-results e f = λ i. e i || f i
+
+-- the test of 14
+pub shared-word : (p : Proto) {ws us ls ts : List ℕ} → Surveyed p ws us ls ts → (i w n : ℕ) {marked : Bool} → i < length ws → w ≡ getD ws i 0
+    → n ≡ fieldOpcode w → marked ≡ eqb (getD ts (i + 1) 0) 1
+    → (eqb n (numberOf TESTSET) && marked) ≡ (is p i TESTSET && reached p (i + 1))
+shared-word p {ws} {us} {ls} {ts} s i w n below e f g =
+    let h : i + 1 ≤ size p = rw (s .words) (omega arith) in
+    let op : n ≡ opcode p i = f ∙ ap fieldOpcode (sym (word-read p ws i w (s .words) e)) in
+    let mark : _ ≡ reached p (i + 1) = g ∙ mark-says (reached p) (size p) ts (s .targets) (i + 1) h in
+    λ j. eqb (op j) (numberOf TESTSET) && mark j
 
 module _ (p : Proto) (i : ℕ) where
   -- past the last word there is nothing to judge
@@ -64,6 +96,11 @@ module _ (p : Proto) (i : ℕ) where
         pub use-right : shared ≡ false → shared ≡ (is p i TESTSET && reached p (i + 1)) → fine ≡ useVerdict p i
         unfolding useVerdict
         use-right f t = rw (sym r ∙ h, sym s ∙ g, sym t ∙ f)
+
+-- ------------------------------------------------------------ the marks of a function's leaders
+
+pub leaders-marked : (p : Proto) (marks : List ℕ) (n : ℕ) → size p < n → marks ≡ table (mark p) n → Marked (leader p) (size p) marks
+leaders-marked p marks n below h j l = rw h (table-at (mark p) n j (omega arith))
 
 -- ------------------------------------------------------------ what 7 to 11 leave
 

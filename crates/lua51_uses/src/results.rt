@@ -3,18 +3,18 @@ ghost use mathlib.Core.Path.{_≡_};
 ghost use mathlib.Core.Bool.{true, not, _&&_};
 ghost use Prim.Native.Nat.{_<_};
 ghost use lib.ListN.{length};
-ghost use Rattle.lua51_deserializer.specs.Word.{CLOSURE};
-ghost use Rattle.lua51_deserializer.specs.Proto.{Proto, size, is, capturesOf};
+ghost use Rattle.lua51_instruction.specs.Word.{CLOSURE};
+ghost use Rattle.lua51_instruction.specs.Proto.{Proto, size, is, capturesOf};
 ghost use Rattle.cfg.specs.Graph.{leader};
 ghost use Rattle.lua51_lifter.specs.Check.{unused-results, missing-results, allCaptures};
 ghost use Rattle.lua51_reach.specs.Targets.{Marked};
-use lua51_deserializer::bytes::byte_at;
-use lua51_deserializer::instruction::a_of;
-use lua51_deserializer::instruction::bx_of;
-use lua51_deserializer::instruction::opcode_of;
-use lua51_operands::words::CLOSURE;
-use lua51_operands::words::word_at;
-use lua51_reach::marks::marked;
+use basics::slices::byte_at;
+use basics::slices::word_at;
+use cfg::marks::marked;
+use lua51_instruction::instruction::a_of;
+use lua51_instruction::instruction::bx_of;
+use lua51_instruction::instruction::opcode_of;
+use lua51_instruction::op::CLOSURE;
 use lua51_results::captures::captures_follow;
 use lua51_results::results::first_slot;
 use lua51_results::results::opens;
@@ -49,14 +49,14 @@ pub fn results_missing(words: &[u32], leaders: &[u8], i: usize) -> bool
 // ------------------------------------------------------------ 13: captures
 
 // Whether word i is a CLOSURE without a capture for each upvalue of its function.
-pub fn captures_missing(words: &[u32], captured: &[u8], leaders: &[u8], i: usize) -> bool
+pub fn captures_missing(words: &[u32], nups: &[u8], leaders: &[u8], i: usize) -> bool
     requires { ⌜ i < length (now words) ⌝ }
-    ensures { λ r. ⌜ ((p : Proto) → p .words ≡ now (words .entry) → p .captured ≡ now (captured .entry) → Marked (leader p) (size p) (now (leaders .entry)) → leader p (size p) ≡ true → r ≡ (is p i CLOSURE && not (allCaptures p i (capturesOf p i)))) ⌝ }
+    ensures { λ r. ⌜ ((p : Proto) → p .words ≡ now (words .entry) → p .nups ≡ now (nups .entry) → Marked (leader p) (size p) (now (leaders .entry)) → leader p (size p) ≡ true → r ≡ (is p i CLOSURE && not (allCaptures p i (capturesOf p i)))) ⌝ }
 {
     let word = word_at(words, i);
     if opcode_of(word) != CLOSURE {
         return false;
     }
-    let count = byte_at(captured, bx_of(word) as usize) as usize;
+    let count = byte_at(nups, bx_of(word) as usize) as usize;
     !captures_follow(words, leaders, i + 1, count)
 }

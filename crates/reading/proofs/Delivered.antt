@@ -7,39 +7,23 @@ use lib.Dec.{leb, ltb}
 use lib.ListN.{length, drop}
 use lib.Seq.{take-at}
 use borrow.Author.Tests.{ltb-true}
-use Rattle.lua51_deserializer.specs.Proto.{Proto}
-use Rattle.lua51_deserializer.specs.Chunk.{protoAt, walk}
-use Rattle.lua51_lifter.specs.Blocks.{graph}
-use Rattle.lua51_lifter.specs.Listing.{listing}
 use Rattle.judging.specs.Judge.{Answer, given, refusal, judge, listingOf}
 use Rattle.judging.proofs.Acceptance.{refusal-not-given}
-use Rattle.follow.specs.GraphFollower.{byGraph}
 use Rattle.follow.proofs.Demand.{demand-three}
 use Rattle.reading.specs.Reading.{Reading, written, delivery, deliveredBy, unchanged}
 use Rattle.reading.specs.Delivered.{DeliveredFollowed, Printed}
 
 module _ (r : Reading) (s o : List ℕ) (m : ℕ) where
-  abbrev p : Proto
-  p = protoAt s (walk s .places) (r .next)
-
   abbrev bytes : List ℕ
   bytes = listingOf s (r .next)
 
   -- the whole of it, once the judgement and both tests are known
   printed : (n : ℕ) → judge s ≡ given n → r .next < n
       → Printed s (r .next) (length bytes) (bytes ++ drop (length bytes) o)
-  unfolding listingOf listing byGraph
+  unfolding listingOf
   printed n j lt = record {
-    blocks = graph p;
     lines = take-at bytes (drop (length bytes) o) (length bytes) refl;
-    followed = λ answers.
-        let a = demand-three s (r .next) (record { functions = n; judged = j; among = lt }) answers in
-        record {
-          graph-in-words = a .graph-in-words;
-          words-in-graph = a .words-in-graph;
-          graph-unlost = a .graph-unlost;
-          words-unlost = a .words-unlost;
-        };
+    followed = demand-three s (r .next) (record { functions = n; judged = j; among = lt });
   }
 
   -- by the output's length

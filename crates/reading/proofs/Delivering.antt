@@ -3,8 +3,8 @@ use Prim.Native.Nat.{ℕ, _+_, _≤_, _<_, min}
 use native.Mathlib.Omega.{arith}
 use mathlib.Core.Bool.{true, false}
 use mathlib.Core.Path.{_≡_, sym, _∙_, ap}
-use mathlib.Core.List.{List, [], _++_}
-use lib.ListN.{length, drop}
+use mathlib.Core.List.{List, []}
+use lib.ListN.{length}
 use borrow.Author.Tests.{lt-ltb, le-ltb, lt-leb, le-leb}
 use Rattle.lines.specs.Out.{Out, output, largest-usize, puts}
 use Rattle.lines.proofs.Puts.{puts-fit, puts-empty}
@@ -14,14 +14,16 @@ use Rattle.lua51_deserializer.specs.declared.chunk.Functions.{Functions}
 use Rattle.lua51_lifter.specs.Check.{fine, check}
 use Rattle.lua51_lifter.specs.Listing.{listing}
 use Rattle.judging.specs.Judge.{Answer, given, refusal, judge, listingOf}
+use Rattle.judging.specs.Refusal.{refusalOf}
 use Rattle.judging.specs.Answers.{answerOf, Whole}
+use Rattle.judging.specs.declared.refusal.Refusal.{Refusal}
 use Rattle.judging.specs.declared.Answer as code
-use Rattle.judging.specs.declared.Answer.the-variants.{Given}
+use Rattle.judging.specs.declared.Answer.the-variants.{Given, Refused}
 use Rattle.judging.proofs.Acceptance.{accepted, accepted-count, accepted-whole}
 use Rattle.judging.proofs.Judging.{count-whole, few-functions}
-use Rattle.judging.proofs.Refusals.{Refused}
+use Rattle.judging.proofs.Refusals.{refused}
 use Rattle.reading.specs.Reading.{Reading, Outcome, unchanged, written, deliveredBy, delivery}
-use Rattle.reading.specs.Opening.{Next}
+use Rattle.reading.specs.Opening.{whereItFits, Next}
 use Rattle.reading.specs.Delivered.{Printed}
 use Rattle.reading.proofs.Delivered.{delivered-followed}
 
@@ -34,9 +36,9 @@ module _ (r : Reading) (s out : List ℕ) where
   not-opened shut = rw shut
 
   -- 1 to 14
-  pub input-refused : (a : Answer) → r .is-open ≡ true → a ≡ judge s → Refused a → unchanged r out a ≡ delivery r s out
+  pub input-refused : (x : Refusal) → r .is-open ≡ true → refusalOf x ≡ judge s → unchanged r out (refusalOf x) ≡ delivery r s out
   unfolding delivery deliveredBy
-  input-refused a opened j refused = rw (opened, ← j, refused .is)
+  input-refused x opened j = rw (opened, ← j, refused x .is)
 
   -- 32
   pub no-function : (n : ℕ) → r .is-open ≡ true → judge s ≡ given n → n ≤ r .next
@@ -50,21 +52,6 @@ module _ (r : Reading) (s out : List ℕ) where
   unfolding delivery deliveredBy
   next-written n opened j below = rw (opened, j, lt-ltb)
 
-module _ (r : Reading) (bytes out : List ℕ) where
-  output-short : length out < length bytes → unchanged r out (refusal 33 (r .next) 0) ≡ written r bytes out
-  unfolding written
-  output-short short = rw lt-leb
-
-  listing-written : length bytes ≤ length out
-      → record {
-        answer = given (length bytes);
-        reading = record { is-open = true; next = r .next + 1 };
-        output = bytes ++ drop (length bytes) out;
-      }
-      ≡ written r bytes out
-  unfolding written
-  listing-written fits = rw le-leb
-
 -- ------------------------------------------------------------ counted first, then written
 
 -- what an empty output counts
@@ -72,28 +59,36 @@ pub count-of : (none bytes : List ℕ) (n : ℕ) → output none n ≡ puts (out
 count-of none bytes n h = ap (λ (o : Out). o .at) (h ∙ puts-empty 0 bytes (omega arith)) ∙ omega arith
 
 -- where it counted n
-module _ (r : Reading) (bytes out : List ℕ) (n : ℕ) (counted : n ≡ min (length bytes) largest-usize) where
-  pub short-by-count : length out < n → unchanged r out (refusal 33 (r .next) 0) ≡ written r bytes out
-  short-by-count short = output-short r bytes out (omega arith)
+module _ (bytes out : List ℕ) (n : ℕ) (counted : n ≡ min (length bytes) largest-usize) where
+  pub stays-as-it-was : length out < n → out ≡ whereItFits bytes out
+  stays-as-it-was short = let h : length out < length bytes = omega arith in rw (lt-leb (length bytes) (length out) h)
 
   -- and what was then printed into the output left out′
-  pub written-by-count : (out′ : List ℕ) (at : ℕ) → n ≤ length out → length out < largest-usize
-      → output out′ at ≡ puts (output out 0) bytes
-      → record { answer = given n; reading = record { is-open = true; next = r .next + 1 }; output = out′ } ≡ written r bytes out
-  written-by-count out′ at roomy few h =
-      let whole : n ≡ length bytes = omega arith in
+  pub printed-whole : (out′ : List ℕ) (at : ℕ) → n ≤ length out → length out < largest-usize
+      → output out′ at ≡ puts (output out 0) bytes → out′ ≡ whereItFits bytes out
+  printed-whole out′ at roomy few h =
       let fits : length bytes ≤ length out = omega arith in
-      let e = h ∙ puts-fit out bytes fits (omega arith) in
-      (λ i. record {
-        answer = given (whole i);
-        reading = record { is-open = true; next = r .next + 1 };
-        output = e i .bytes;
-      })
-      ∙ listing-written r bytes out fits
+      ap (λ (o : Out). o .bytes) (h ∙ puts-fit out bytes fits (omega arith)) ∙ rw (le-leb (length bytes) (length out) fits)
+
+  module _ (r : Reading) (out′ : List ℕ) (left : out′ ≡ whereItFits bytes out) where
+    pub short-by-count : length out < n → unchanged r out′ (refusal 33 (r .next) 0) ≡ written r bytes out
+    unfolding written
+    short-by-count short = let h : length out < length bytes = omega arith in rw (left, lt-leb (length bytes) (length out) h)
+
+    pub written-by-count : n ≤ length out → length out < largest-usize
+        → record { answer = given n; reading = record { is-open = true; next = r .next + 1 }; output = out′ } ≡ written r bytes out
+    unfolding written
+    written-by-count roomy few =
+        let whole : n ≡ length bytes = omega arith in
+        let fits : length bytes ≤ length out = omega arith in
+        rw (left, whole, le-leb (length bytes) (length out) fits)
 
 -- ------------------------------------------------------------ the next function
 
 -- the judgement, by the code's answer
+pub judge-refuses : (s : List ℕ) (a : code.Answer) (x : Refusal) → answerOf a ≡ judge s → a ≡ Refused x → refusalOf x ≡ judge s
+judge-refuses s a x j e = sym (ap answerOf e) ∙ j
+
 pub judge-given : (s : List ℕ) (a : code.Answer) (n : ℕ) → answerOf a ≡ judge s → a ≡ Given n → judge s ≡ given n
 judge-given s a n j e = sym j ∙ ap answerOf e
 

@@ -1,3 +1,4 @@
 pub mod Opening
 pub mod Delivered
 pub mod Delivering
+pub mod Program

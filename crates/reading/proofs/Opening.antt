@@ -3,20 +3,18 @@ use mathlib.Core.Path.{_≡_, _∙_, ap}
 use mathlib.Core.Bool.{true}
 use mathlib.Core.List.{List}
 use Prim.Native.Nat.{ℕ}
-use types.Run.{OneOf}
-use denote.Enum.Declared.{tagOf}
 use Rattle.judging.specs.Judge.{judge}
 use Rattle.judging.specs.Answers.{answerOf}
 use Rattle.judging.specs.declared.Answer.{Answer}
-use Rattle.judging.specs.declared.Answer.the-variants.{Given}
-use Rattle.judging.proofs.Answer.{the-type as answer-type}
-use Rattle.judging.proofs.Refusals.{refusals, refused-by-tag}
+use Rattle.judging.specs.declared.Answer.the-variants.{Given, Refused}
+use Rattle.judging.specs.declared.refusal.Refusal.{Refusal}
+use Rattle.judging.proofs.Refusals.{refused}
 use Rattle.reading.specs.Reading.{Reading, closed, openedBy, opening}
 
--- an answer that gives nothing leaves the reading closed
-pub refused-closed : (a : Answer) → OneOf refusals (tagOf answer-type a) → closed ≡ openedBy (answerOf a)
+-- a refusal leaves the reading closed
+pub refused-closed : (a : Answer) (x : Refusal) → a ≡ Refused x → closed ≡ openedBy (answerOf a)
 unfolding openedBy
-refused-closed a h = rw (refused-by-tag a h .is)
+refused-closed a x e = rw (e, refused x .is)
 
 -- an answer that gives a count opens it, at function 0
 pub given-opened : (a : Answer) (n : ℕ) → a ≡ Given n → record { is-open = true; next = 0 } ≡ openedBy (answerOf a)

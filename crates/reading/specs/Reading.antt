@@ -30,7 +30,7 @@ openedBy (refusal n f p) = closed
 unfoldable pub opening : List ℕ → List ℕ → Outcome
 opening s out = record { answer = judge s; reading = openedBy (judge s); output = out }
 
--- a refused delivery: 'the lent output and the reading keep what they held'
+-- a refused delivery. Demand 1: 'the lent output and the reading keep what they held'
 abbrev pub unchanged : Reading → List ℕ → Answer → Outcome
 unchanged r out a = record { answer = a; reading = r; output = out }
 

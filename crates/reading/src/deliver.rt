@@ -1,17 +1,21 @@
 // Delivering the listing of a reading's next function.
 use crate::Reading;
 use judging::Answer;
+use judging::refusal::Refusal;
 use judging::walk_and_judge;
 use listing::function::put_function;
 use lua51_deserializer::chunk::Functions;
 ghost use mathlib.Core.Path.{_≡_};
 ghost use mathlib.Core.List.{List};
-ghost use Prim.Native.Nat.{ℕ};
+ghost use Prim.Native.Nat.{ℕ, min};
+ghost use lib.ListN.{length};
+ghost use Rattle.lines.specs.Out.{largest-usize};
 ghost use Rattle.judging.specs.Judge.{given, listingOf};
+ghost use Rattle.judging.specs.Refusal.{refusalOf};
 ghost use Rattle.judging.specs.Answers.{answerOf};
 ghost use Rattle.reading.specs.Reading.{unchanged, written, delivery};
 ghost use Rattle.reading.specs.Delivered.{Printed};
-ghost use Rattle.reading.specs.Opening.{readingOf, outcomeOf, Next};
+ghost use Rattle.reading.specs.Opening.{readingOf, outcomeOf, whereItFits, Next};
 
 // What a delivery gives: the length of the listing or a refusal, and the reading.
 pub struct Delivered {
@@ -20,24 +24,39 @@ pub struct Delivered {
 }
 
 // A refused delivery: the reading keeps what it held.
-fn refused(reading: Reading, answer: Answer) -> Delivered
-    ensures { λ r. ⌜ ((out : List ℕ) → outcomeOf r out ≡ unchanged (readingOf reading) out (answerOf answer)) ⌝ }
+fn refused(reading: Reading, refusal: Refusal) -> Delivered
+    ensures { λ r. ⌜ ((out : List ℕ) → outcomeOf r out ≡ unchanged (readingOf reading) out (refusalOf refusal)) ⌝ }
 {
-    Delivered { answer, reading }
+    Delivered {
+        answer: Answer::Refused(refusal),
+        reading,
+    }
 }
 
-// Writes the listing of the next function from the output's start, where the output is long enough, and moves on by one. The
+// Writes the listing of function f from the output's start, where the output is long enough, and gives its length in any case. The
 // listing is first printed into an empty output, which only counts it.
+fn write_whole(s: &[u8], functions: Functions, f: u32, out: &mut [u8]) -> usize
+    requires { ⌜ Next (now s) functions f ⌝ }
+    ensures { λ r. ⌜ r ≡ min (length (listingOf (now (s .entry)) f)) largest-usize ⌝ }
+    ensures { λ _. ⌜ now (out .exit) ≡ whereItFits (listingOf (now (s .entry)) f) (now (out .entry)) ⌝ }
+{
+    let mut none = [0u8; 0];
+    let length = put_function(&mut none, 0, s, functions, f);
+    if length <= out.len() {
+        put_function(out, 0, s, functions, f);
+    }
+    length
+}
+
+// Writes the listing of the next function and moves on by one, or refuses an output that is shorter than it.
 fn write_next(reading: Reading, s: &[u8], functions: Functions, out: &mut [u8]) -> Delivered
     requires { ⌜ Next (now s) functions (reading .next) ⌝ }
     ensures { λ r. ⌜ outcomeOf r (now (out .exit)) ≡ written (readingOf reading) (listingOf (now (s .entry)) (reading .next)) (now (out .entry)) ⌝ }
 {
-    let mut none = [0u8; 0];
-    let length = put_function(&mut none, 0, s, functions, reading.next);
+    let length = write_whole(s, functions, reading.next, out);
     if out.len() < length {
-        return refused(reading, Answer::OutputShort(reading.next));
+        return refused(reading, Refusal::OutputShort(reading.next));
     }
-    put_function(out, 0, s, functions, reading.next);
     let next = reading.next + 1;
     Delivered {
         answer: Answer::Given(length),
@@ -52,15 +71,17 @@ pub fn deliver(reading: Reading, s: &[u8], out: &mut [u8]) -> Delivered
     ensures followed { λ r. ⌜ ((m : ℕ) → answerOf (r .answer) ≡ given m → Printed (now (s .entry)) (reading .next) m (now (out .exit))) ⌝ }
 {
     if !reading.opened {
-        return refused(reading, Answer::NotOpened(reading.next));
+        return refused(reading, Refusal::NotOpened(reading.next));
     }
     let judged = walk_and_judge(s);
     let answer = judged.answer;
-    let Answer::Given(count) = answer else {
-        return refused(reading, answer);
-    };
-    if count <= reading.next as usize {
-        return refused(reading, Answer::NoFunction(reading.next));
+    match answer {
+        Answer::Refused(refusal) => refused(reading, refusal),
+        Answer::Given(count) => {
+            if count <= reading.next as usize {
+                return refused(reading, Refusal::NoFunction(reading.next));
+            }
+            write_next(reading, s, judged.functions, out)
+        }
     }
-    write_next(reading, s, judged.functions, out)
 }

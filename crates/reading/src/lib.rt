@@ -9,6 +9,9 @@ ghost use Prim.Native.Nat.{ℕ};
 ghost use Rattle.reading.specs.Reading.{closed, opening};
 ghost use Rattle.reading.specs.Opening.{readingOf, openingOf};
 
+// The listing program's output buffer (document 01, 'Its output buffer is 65,536 bytes').
+pub const PROGRAM_BUFFER: usize = 65536;
+
 // A reading of a chunk: whether it is open, and the function whose listing comes next. It goes into each call and comes back.
 pub struct Reading {
     pub opened: bool,

@@ -7,11 +7,13 @@ use crate::record::read_part;
 use judging::Answer;
 use judging::judge;
 use judging::refusal::Refusal;
-use judging::refusal::refusal_of;
-use lua51_deserializer::bytes::int_at;
+use judging::refusal::numbers_of;
 use lua51_deserializer::chunk::Functions;
+use lua51_deserializer::chunk::MOST_FUNCTIONS;
 use lua51_deserializer::chunk::Walked;
 use lua51_deserializer::chunk::walk;
+use lua51_deserializer::fields::Cursor;
+use lua51_value::bytes::int_at;
 
 // A record begins with seven numbers of four bytes, at these offsets: of the walk, from NUMBER on, and of the judgement.
 const HEAD_SIZE: usize = 28;
@@ -39,8 +41,6 @@ const TAIL: usize = 4;
 
 const PARENT: usize = 8;
 
-const MOST_FUNCTIONS: usize = 256;
-
 const MOST_FUNCTION_BYTES: usize = 3072;
 
 // Whether the first `count` functions stand where the record has them.
@@ -65,16 +65,25 @@ fn same_functions(functions: Functions, count: usize, recorded: &[u8]) -> bool {
     true
 }
 
+// Whether the walk ended as the record has it: number and place are 0 where it came to the end.
+fn same_end(cursor: Cursor, head: &[u8]) -> bool {
+    let number = number_at(head, NUMBER);
+    let place = number_at(head, PLACE);
+    match cursor {
+        Cursor::Here(_) => (number == 0) & (place == 0),
+        Cursor::Refused(fault) => {
+            let refused = numbers_of(Refusal::Chunk(fault));
+            (refused.number == number) & (refused.place == place)
+        }
+    }
+}
+
 // Whether the walk's answer is the recorded one.
 fn same_walk(walked: Walked, head: &[u8], recorded: &[u8]) -> bool {
     let cursor = walked.cursor;
     let functions = walked.functions;
     let count = functions.count;
-    let refused = refusal_of(Answer::Chunk(cursor));
-    if refused.number != number_at(head, NUMBER) {
-        return false;
-    }
-    if refused.place != number_at(head, PLACE) {
+    if !same_end(cursor, head) {
         return false;
     }
     if count != number_at(head, COUNT) {
@@ -83,25 +92,21 @@ fn same_walk(walked: Walked, head: &[u8], recorded: &[u8]) -> bool {
     same_functions(functions, count, recorded)
 }
 
-// Whether a refusal is the one that the record has for the judgement.
-fn same_refusal(refused: Refusal, head: &[u8]) -> bool {
-    if refused.number != number_at(head, JUDGED_NUMBER) {
-        return false;
-    }
-    if refused.function != number_at(head, JUDGED_FUNCTION) {
-        return false;
-    }
-    refused.place == number_at(head, JUDGED_PLACE)
-}
-
-// Whether the judgement is the recorded one. Of an accepted chunk it is the count of functions, which is the walk's.
+// Whether the judgement is the recorded one. Of an accepted chunk it is the count of functions, which is the walk's, and the
+// record's numbers are 0.
 fn same_judgement(answer: Answer, head: &[u8]) -> bool {
-    if let Answer::Given(count) = answer {
-        if count != number_at(head, COUNT) {
-            return false;
+    let number = number_at(head, JUDGED_NUMBER);
+    let function = number_at(head, JUDGED_FUNCTION);
+    let place = number_at(head, JUDGED_PLACE);
+    match answer {
+        Answer::Given(count) => {
+            (count == number_at(head, COUNT)) & (number == 0) & (function == 0) & (place == 0)
+        }
+        Answer::Refused(refusal) => {
+            let refused = numbers_of(refusal);
+            (refused.number == number) & (refused.function == function) & (refused.place == place)
         }
     }
-    same_refusal(refusal_of(answer), head)
 }
 
 // The next record: read, walked, judged and compared. One that is not whole differs.

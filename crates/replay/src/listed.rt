@@ -1,23 +1,20 @@
 // Records of chunks with what the listing program writes for them.
 use crate::record::MOST_LENGTH;
+use crate::record::Next;
 use crate::record::Outcome;
-use crate::record::number_at;
+use crate::record::next_number;
 use crate::record::outcome_of;
 use crate::record::read_part;
 use judging::Answer;
+use judging::refusal::Refusal;
+use judging::refusal::numbers_of;
 use judging::refusal::put_refusal;
-use judging::refusal::refusal_of;
+use reading::PROGRAM_BUFFER;
 use reading::deliver::deliver;
 use reading::open;
 
-// A chunk and an output stand behind their lengths.
-const LENGTH_SIZE: usize = 4;
-
 // The longest output of a record.
 const MOST_OUTPUT: usize = 180000;
-
-// The listing program's buffer.
-const BUFFER: usize = 65536;
 
 // More than the longest X line.
 const LINE: usize = 64;
@@ -45,12 +42,12 @@ fn matched(piece: &[u8], count: usize, recorded: &[u8], at: usize) -> usize {
 }
 
 // Whether the recorded output ends with the X line of a refusal, or, where all functions are delivered, without one.
-fn ends_with(answer: Answer, recorded: &[u8], at: usize) -> bool {
-    if let Answer::NoFunction(_) = answer {
+fn ends_with(refusal: Refusal, recorded: &[u8], at: usize) -> bool {
+    if let Refusal::NoFunction(_) = refusal {
         return at == recorded.len();
     }
     let mut line = [0u8; LINE];
-    let count = put_refusal(&mut line, 0, refusal_of(answer));
+    let count = put_refusal(&mut line, 0, numbers_of(refusal));
     matched(&line, count, recorded, at) == recorded.len()
 }
 
@@ -58,49 +55,45 @@ fn ends_with(answer: Answer, recorded: &[u8], at: usize) -> bool {
 pub fn same_output(s: &[u8], recorded: &[u8]) -> bool {
     let opened = open(s);
     let answer = opened.answer;
-    let Answer::Given(_) = answer else {
-        return ends_with(answer, recorded, 0);
-    };
-    let mut out = [0u8; BUFFER];
+    if let Answer::Refused(refusal) = answer {
+        return ends_with(refusal, recorded, 0);
+    }
+    let mut out = [0u8; PROGRAM_BUFFER];
     let mut reading = opened.reading;
     let mut at = 0;
     let mut left = MOST_DELIVERIES;
     while 0 < left {
         let delivered = deliver(reading, s, &mut out);
         let delivery = delivered.answer;
-        let Answer::Given(count) = delivery else {
-            return ends_with(delivery, recorded, at);
-        };
         reading = delivered.reading;
-        at = matched(&out, count, recorded, at);
+        match delivery {
+            Answer::Refused(refusal) => return ends_with(refusal, recorded, at),
+            Answer::Given(count) => at = matched(&out, count, recorded, at),
+        }
         left -= 1;
     }
     false
 }
 
-// The number that stands next in the file, a length or another; 0 where it has no four bytes more.
-pub fn length_at(fd: i32) -> usize {
-    let mut size = [0u8; LENGTH_SIZE];
-    if io::read_full(fd, &mut size) < LENGTH_SIZE {
-        return 0;
-    }
-    number_at(&size, 0)
-}
-
-// The next record: read, opened, delivered and compared. One that is not whole differs. None has an empty output.
+// The next record: read, opened, delivered and compared. One that is not whole differs.
 pub fn listed_record(fd: i32) -> Outcome {
-    let mut chunk = [0u8; MOST_LENGTH];
-    let length = length_at(fd);
-    let n = read_part(fd, &mut chunk, length);
-    let mut recorded = [0u8; MOST_OUTPUT];
-    let size = length_at(fd);
-    let m = read_part(fd, &mut recorded, size);
-    if m == 0 {
+    let first = next_number(fd);
+    if let Next::End = first {
         return Outcome::End;
     }
+    let Next::Number(length) = first else {
+        return Outcome::Differs;
+    };
+    let mut chunk = [0u8; MOST_LENGTH];
+    let n = read_part(fd, &mut chunk, length);
     if n != length {
         return Outcome::Differs;
     }
+    let Next::Number(size) = next_number(fd) else {
+        return Outcome::Differs;
+    };
+    let mut recorded = [0u8; MOST_OUTPUT];
+    let m = read_part(fd, &mut recorded, size);
     if m != size {
         return Outcome::Differs;
     }

@@ -1,7 +1,8 @@
 // Records of chunks with what the original lifter answers for them.
-use crate::listed::length_at;
 use crate::listed::same_output;
+use crate::record::Next;
 use crate::record::Outcome;
+use crate::record::next_number;
 use crate::record::outcome_of;
 use crate::record::read_part;
 
@@ -12,36 +13,59 @@ const MOST_LINES: usize = 8192;
 // The class of a chunk for which the two agree.
 const AGREED: usize = 0;
 
-// The next record: read, opened, delivered and compared. Where the two agree the original's answer is the output; else the recorded
-// listing is, and the answer differs from it. One that is not whole differs. None has an empty answer.
+// The classes of docs/DIFFERENCES.md.
+const MOST_CLASS: usize = 6;
+
+// Whether a chunk gives what its record says. Where the two agree the original's answer is the output, and no listing is recorded;
+// else the recorded listing is, and the answer differs from it.
+fn as_recorded(s: &[u8], class: usize, answer: &[u8], listing: &[u8]) -> bool {
+    if MOST_CLASS < class {
+        return false;
+    }
+    if check::same(answer, listing) {
+        return false;
+    }
+    if class != AGREED {
+        return same_output(s, listing);
+    }
+    if 0 < listing.len() {
+        return false;
+    }
+    same_output(s, answer)
+}
+
+// The next record: read, opened, delivered and compared. One that is not whole differs.
 pub fn original_record(fd: i32) -> Outcome {
-    let mut chunk = [0u8; MOST_CHUNK];
-    let length = length_at(fd);
-    let n = read_part(fd, &mut chunk, length);
-    let class = length_at(fd);
-    let mut answer = [0u8; MOST_LINES];
-    let answered = length_at(fd);
-    let a = read_part(fd, &mut answer, answered);
-    let mut listing = [0u8; MOST_LINES];
-    let listed = length_at(fd);
-    let m = read_part(fd, &mut listing, listed);
-    if a == 0 {
+    let first = next_number(fd);
+    if let Next::End = first {
         return Outcome::End;
     }
+    let Next::Number(length) = first else {
+        return Outcome::Differs;
+    };
+    let mut chunk = [0u8; MOST_CHUNK];
+    let n = read_part(fd, &mut chunk, length);
     if n != length {
         return Outcome::Differs;
     }
+    let Next::Number(class) = next_number(fd) else {
+        return Outcome::Differs;
+    };
+    let Next::Number(answered) = next_number(fd) else {
+        return Outcome::Differs;
+    };
+    let mut answer = [0u8; MOST_LINES];
+    let a = read_part(fd, &mut answer, answered);
     if a != answered {
         return Outcome::Differs;
     }
+    let Next::Number(listed) = next_number(fd) else {
+        return Outcome::Differs;
+    };
+    let mut listing = [0u8; MOST_LINES];
+    let m = read_part(fd, &mut listing, listed);
     if m != listed {
         return Outcome::Differs;
     }
-    if class == AGREED {
-        return outcome_of(same_output(&chunk[..n], &answer[..a]));
-    }
-    if check::same(&answer[..a], &listing[..m]) {
-        return Outcome::Differs;
-    }
-    outcome_of(same_output(&chunk[..n], &listing[..m]))
+    outcome_of(as_recorded(&chunk[..n], class, &answer[..a], &listing[..m]))
 }

@@ -1,7 +1,7 @@
 // Opening and delivering by value, with readings and answers in numbers.
 use crate::Answer;
 use crate::Reading;
-use judging::refusal::refusal_of;
+use judging::refusal::numbers_of;
 use reading::deliver::deliver;
 use reading::open;
 ghost use mathlib.Core.Path.{_≡_};
@@ -24,20 +24,22 @@ pub struct Call {
 fn answer_numbers(answer: judging::Answer) -> Answer
     ensures { λ r. ⌜ r ≡ answerNumbers (answerOf answer) ⌝ }
 {
-    if let judging::Answer::Given(n) = answer {
-        return Answer {
+    match answer {
+        judging::Answer::Given(n) => Answer {
             number: 0,
             function: 0,
             place: 0,
             length: n as u64,
-        };
-    }
-    let refused = refusal_of(answer);
-    Answer {
-        number: refused.number as u64,
-        function: refused.function as u64,
-        place: refused.place as u64,
-        length: 0,
+        },
+        judging::Answer::Refused(refusal) => {
+            let refused = numbers_of(refusal);
+            Answer {
+                number: refused.number as u64,
+                function: refused.function as u64,
+                place: refused.place as u64,
+                length: 0,
+            }
+        }
     }
 }
 

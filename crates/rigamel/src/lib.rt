@@ -6,7 +6,7 @@ use crate::calls::answer_of;
 use crate::calls::deliver_value;
 use crate::calls::open_value;
 use crate::calls::reading_of;
-use judging::refusal::Refusal;
+use judging::refusal::Numbers;
 use judging::refusal::put_refusal;
 ghost use mathlib.Core.Path.{_≡_};
 ghost use mathlib.Core.List.{List};
@@ -72,7 +72,7 @@ pub extern "C" fn rigamel_print_refusal(
 ) -> u64
     ensures { λ r. ⌜ output (now (out .exit)) r ≡ puts (output (now (out .entry)) 0) (refusalLine number function place) ⌝ }
 {
-    let refused = Refusal {
+    let refused = Numbers {
         number: number as usize,
         function: function as usize,
         place: place as usize,

@@ -11,10 +11,10 @@ use Rattle.judging.proofs.check_function.Tie as tie
 use Rattle.judging.proofs.check_function.Reads as reads
 use Rattle.judging.proofs.check_function.Lts as lts
 use Rattle.lua51_function.proofs.function.function_at.Reads as function-at-reads
-use Rattle.judging.proofs.check_loaded.Reads as check-loaded-reads
+use Rattle.lua51_checker.proofs.check.check.Reads as check-reads
 
 -- no function has more words than the buffers hold
-few-words : (d : lts.After-function-at (function-at-reads.Asked, function-at-reads.Learnt, check-loaded-reads.Asked, check-loaded-reads.Learnt) reads.Pre reads.Post) → d .function-at .result .words ≤ most-words
+few-words : (d : lts.After-function-at (function-at-reads.Asked, function-at-reads.Learnt, check-reads.Asked, check-reads.Learnt) reads.Pre reads.Post) → d .function-at .result .words ≤ most-words
 few-words d =
     let a = d .before .before .before .before .before .before .before .before .before .before .before .before in
     let h = holds-function (a .pre) (d .function-at .ensures) in
@@ -26,44 +26,44 @@ function-at-requires c κs = search needs
 add-marks : tie.Need-add-marks
 add-marks c = omega (arith, few-words (c .before .before .before .before .before .before .before .before))
 
-slice-reshare-prefix-check-loaded : tie.Need-slice-reshare-prefix-check-loaded
-slice-reshare-prefix-check-loaded c = search needs
+slice-reshare-prefix-check : tie.Need-slice-reshare-prefix-check
+slice-reshare-prefix-check c = search needs
 
-slice-aggregate-check-loaded : tie.Need-slice-aggregate-check-loaded
-slice-aggregate-check-loaded c = search needs
+slice-aggregate-check : tie.Need-slice-aggregate-check
+slice-aggregate-check c = search needs
 
-slice-reshare-prefix-check-loaded-2 : tie.Need-slice-reshare-prefix-check-loaded-2
-slice-reshare-prefix-check-loaded-2 c = search needs
+slice-reshare-prefix-check-2 : tie.Need-slice-reshare-prefix-check-2
+slice-reshare-prefix-check-2 c = search needs
 
-slice-aggregate-check-loaded-2 : tie.Need-slice-aggregate-check-loaded-2
-slice-aggregate-check-loaded-2 c = search needs
+slice-aggregate-check-2 : tie.Need-slice-aggregate-check-2
+slice-aggregate-check-2 c = search needs
 
-slice-reshare-prefix-check-loaded-3 : tie.Need-slice-reshare-prefix-check-loaded-3
-slice-reshare-prefix-check-loaded-3 c = search needs
+slice-reshare-prefix-check-3 : tie.Need-slice-reshare-prefix-check-3
+slice-reshare-prefix-check-3 c = search needs
 
-slice-aggregate-check-loaded-3 : tie.Need-slice-aggregate-check-loaded-3
-slice-aggregate-check-loaded-3 c = search needs
+slice-aggregate-check-3 : tie.Need-slice-aggregate-check-3
+slice-aggregate-check-3 c = search needs
 
-slice-reshare-prefix-check-loaded-4 : tie.Need-slice-reshare-prefix-check-loaded-4
-slice-reshare-prefix-check-loaded-4 c = search needs
+slice-reshare-prefix-check-4 : tie.Need-slice-reshare-prefix-check-4
+slice-reshare-prefix-check-4 c = search needs
 
-slice-aggregate-check-loaded-4 : tie.Need-slice-aggregate-check-loaded-4
-slice-aggregate-check-loaded-4 c = search needs
+slice-aggregate-check-4 : tie.Need-slice-aggregate-check-4
+slice-aggregate-check-4 c = search needs
 
-slice-relend-prefix-check-loaded : tie.Need-slice-relend-prefix-check-loaded
-slice-relend-prefix-check-loaded c = omega (arith, few-words (c .before .before .before .before .before .before .before .before .before .before .before .before), c .before .before .before .before .before .before .before .before .before .before .before .before .before .before .before .before .before .before .before .before .before .before .before .before .pre .leaders)
+slice-relend-prefix-check : tie.Need-slice-relend-prefix-check
+slice-relend-prefix-check c = omega (arith, few-words (c .before .before .before .before .before .before .before .before .before .before .before .before), c .before .before .before .before .before .before .before .before .before .before .before .before .before .before .before .before .before .before .before .before .before .before .before .before .pre .leaders)
 
-slice-aggregate-check-loaded-5 : tie.Need-slice-aggregate-check-loaded-5
-slice-aggregate-check-loaded-5 c = sym (length-take-le _ _ (slice-relend-prefix-check-loaded (c .before)))
+slice-aggregate-check-5 : tie.Need-slice-aggregate-check-5
+slice-aggregate-check-5 c = sym (length-take-le _ _ (slice-relend-prefix-check (c .before)))
 
-slice-relend-prefix-check-loaded-2 : tie.Need-slice-relend-prefix-check-loaded-2
-slice-relend-prefix-check-loaded-2 c = omega (arith, few-words (c .before .before .before .before .before .before .before .before .before .before .before .before .before), c .before .before .before .before .before .before .before .before .before .before .before .before .before .before .before .before .before .before .before .before .before .before .before .before .before .pre .targets)
+slice-relend-prefix-check-2 : tie.Need-slice-relend-prefix-check-2
+slice-relend-prefix-check-2 c = omega (arith, few-words (c .before .before .before .before .before .before .before .before .before .before .before .before .before), c .before .before .before .before .before .before .before .before .before .before .before .before .before .before .before .before .before .before .before .before .before .before .before .before .before .pre .targets)
 
-slice-aggregate-check-loaded-6 : tie.Need-slice-aggregate-check-loaded-6
-slice-aggregate-check-loaded-6 c = sym (length-take-le _ _ (slice-relend-prefix-check-loaded-2 (c .before)))
+slice-aggregate-check-6 : tie.Need-slice-aggregate-check-6
+slice-aggregate-check-6 c = sym (length-take-le _ _ (slice-relend-prefix-check-2 (c .before)))
 
-check-loaded-requires : tie.Need-check-loaded-requires
-check-loaded-requires c κs = search needs
+check-requires : tie.Need-check-requires
+check-requires c κs = search needs
 
 same-length : tie.Need-same-length
 same-length c = search needs
@@ -89,9 +89,9 @@ returns c =
     let d = k .before .before .before .before .before .before .before .before .before .before .before .before .before .before .before in
     let a = d .before .before .before .before .before .before .before .before .before .before .before .before in
     let h = holds-function (a .pre) (d .function-at .ensures) in
-    k .check-loaded .ensures _ (stands-function (a .pre) (d .function-at .ensures))
-    (omega (arith, slice-aggregate-check-loaded-5 (k .before .before)))
-    (omega (arith, slice-aggregate-check-loaded-6 (k .before)))
+    k .check .ensures .0 _ (stands-function (a .pre) (d .function-at .ensures))
+    (omega (arith, slice-aggregate-check-5 (k .before .before)))
+    (omega (arith, slice-aggregate-check-6 (k .before)))
 
 pub check-function-spec : {M : Type 1} → statement M
 check-function-spec =
@@ -99,19 +99,19 @@ check-function-spec =
     (tie.spec
     function-at-requires
     add-marks
-    slice-reshare-prefix-check-loaded
-    slice-aggregate-check-loaded
-    slice-reshare-prefix-check-loaded-2
-    slice-aggregate-check-loaded-2
-    slice-reshare-prefix-check-loaded-3
-    slice-aggregate-check-loaded-3
-    slice-reshare-prefix-check-loaded-4
-    slice-aggregate-check-loaded-4
-    slice-relend-prefix-check-loaded
-    slice-aggregate-check-loaded-5
-    slice-relend-prefix-check-loaded-2
-    slice-aggregate-check-loaded-6
-    check-loaded-requires
+    slice-reshare-prefix-check
+    slice-aggregate-check
+    slice-reshare-prefix-check-2
+    slice-aggregate-check-2
+    slice-reshare-prefix-check-3
+    slice-aggregate-check-3
+    slice-reshare-prefix-check-4
+    slice-aggregate-check-4
+    slice-relend-prefix-check
+    slice-aggregate-check-5
+    slice-relend-prefix-check-2
+    slice-aggregate-check-6
+    check-requires
     same-length
     same-length-2
     same-length-3

@@ -10,11 +10,11 @@ use Rattle.judging.proofs.judge_functions.Statement.{statement}
 use Rattle.judging.proofs.judge_functions.Tie as tie
 
 abbrev Inv-loop : tie.InvT-loop
-Inv-loop s functions words₀ kinds₀ nested₀ captured₀ leaders₀ targets₀ count f₀ words kinds nested captured leaders targets f =
-    (f ≤ count) × (judgeFrom s (walk s .places) f (count - f) ≡ judge s) × Buffers words kinds nested captured leaders targets
+Inv-loop s functions words₀ kinds₀ nested₀ nups₀ leaders₀ targets₀ count f₀ words kinds nested nups leaders targets f =
+    (f ≤ count) × (judgeFrom s (walk s .places) f (count - f) ≡ judge s) × Buffers words kinds nested nups leaders targets
 
 abbrev μ-loop : tie.MeasureT-loop
-μ-loop s functions words₀ kinds₀ nested₀ captured₀ leaders₀ targets₀ count f₀ words kinds nested captured leaders targets f =
+μ-loop s functions words₀ kinds₀ nested₀ nups₀ leaders₀ targets₀ count f₀ words kinds nested nups leaders targets f =
     count - f
 
 loop-holds : tie.Need-loop-holds Inv-loop μ-loop
@@ -33,7 +33,7 @@ slice-aggregate-check-function-3 : tie.Need-slice-aggregate-check-function-3 Inv
 slice-aggregate-check-function-3 c = c .before .before .before .before .loop .inv .2 .nested
 
 slice-aggregate-check-function-4 : tie.Need-slice-aggregate-check-function-4 Inv-loop μ-loop
-slice-aggregate-check-function-4 c = c .before .before .before .before .before .loop .inv .2 .captured
+slice-aggregate-check-function-4 c = c .before .before .before .before .before .loop .inv .2 .nups
 
 slice-aggregate-check-function-5 : tie.Need-slice-aggregate-check-function-5 Inv-loop μ-loop
 slice-aggregate-check-function-5 c = c .before .before .before .before .before .before .loop .inv .2 .leaders
@@ -53,16 +53,20 @@ check-function-requires c κs =
       targets = search needs;
     }
 
-enum-told : tie.Need-enum-told Inv-loop μ-loop
-enum-told c = search needs
+enum-known-verdict : tie.Need-enum-known-verdict Inv-loop μ-loop
+enum-known-verdict c = search needs
 
 returns : tie.Need-returns Inv-loop μ-loop
 returns c =
-    let k = c .before .before .before .before .before .before .before in
+    let v = c .before in
+    let k = v .before .before .before .before .before .before .before .before in
     let l = k .before .before .before .before .before .before .before .before in
     let a = l .before .before .args in
     let s = a .s .now in
-    function-refused s (walk s .places) (a .functions .count) (l .loop .f) (k .check-function .result) (k .before .before .before .before .before .before .before .loop-test .taken) (k .check-function .ensures) (c .match .keys2) ∙ l .loop .inv .1
+    function-refused s (walk s .places) (a .functions .count) (l .loop .f) (k .check-function .result) (k .before .before .before .before .before .before .before .loop-test .taken) (k .check-function .ensures) _ (v .verdict .given .1) ∙ l .loop .inv .1
+
+enum-told : tie.Need-enum-told Inv-loop μ-loop
+enum-told c = search needs
 
 add-f : tie.Need-add-f Inv-loop μ-loop
 add-f c = omega (arith, few-functions (c .before .before .before .before .before .before .before .before .before .before .before .before .before .before .before .before .before .before .pre))
@@ -100,8 +104,9 @@ judge-functions-spec =
     slice-aggregate-check-function-5
     slice-aggregate-check-function-6
     check-function-requires
-    enum-told
+    enum-known-verdict
     returns
+    enum-told
     add-f
     loop-less
     loop-again

@@ -8,13 +8,16 @@ use Rattle.judging.proofs.walk_and_judge.Tie as tie
 walk-requires : tie.Need-walk-requires
 walk-requires c κs = search needs
 
-enum-told : tie.Need-enum-told
-enum-told c = search needs
+enum-known-cursor : tie.Need-enum-known-cursor
+enum-known-cursor c = search needs
 
 returns : tie.Need-returns
 returns c =
-    let w = c .before .before in
-    (judge-refused _ (w .walk .result) (w .walk .ensures) (c .match .keys2), places-of _ (w .walk .result) (w .walk .ensures))
+    let w = c .before .before .before .before in
+    (judge-refused _ (w .walk .result) (w .walk .ensures) _ (c .before .cursor .given .1), places-of _ (w .walk .result) (w .walk .ensures))
+
+enum-told : tie.Need-enum-told
+enum-told c = search needs
 
 judge-functions-requires : tie.Need-judge-functions-requires
 judge-functions-requires c κs =
@@ -28,4 +31,4 @@ returns-2 c =
 
 pub walk-and-judge-spec : {M : Type 1} → statement M
 walk-and-judge-spec =
-    tie.close (tie.spec walk-requires enum-told returns judge-functions-requires returns-2)
+    tie.close (tie.spec walk-requires enum-known-cursor returns enum-told judge-functions-requires returns-2)

@@ -4,10 +4,10 @@ use mathlib.Core.List.{List, []}
 use mathlib.Core.Path.{_≡_, refl}
 use lib.Dec.{ltb}
 use borrow.Author.Tests.{ne-eqb}
-use Rattle.lua51_deserializer.specs.declared.instruction.Flow.{Flow}
-use Rattle.lua51_deserializer.specs.declared.instruction.Flow.the-variants.{Straight, Skip, Jump, Test, TestSet, LoopEntry, NumericLoop, GenericLoop, Exit}
-use Rattle.lua51_deserializer.specs.Instruction.{flowMeant}
-use Rattle.lua51_deserializer.specs.Proto.{Proto, size, flowAt}
+use Rattle.lua51_instruction.specs.declared.instruction.Flow.{Flow}
+use Rattle.lua51_instruction.specs.declared.instruction.Flow.the-variants.{Straight, Skip, Jump, Test, TestSet, LoopEntry, NumericLoop, GenericLoop, Exit}
+use Rattle.lua51_instruction.specs.Instruction.{flowMeant}
+use Rattle.lua51_instruction.specs.Proto.{Proto, size, flowAt}
 use Rattle.cfg.specs.Graph.{Edge, leaving}
 use Rattle.cfg.proofs.Claims.{at-flow, within, beyond}
 use borrow.Author.Needs.{needs}
@@ -18,13 +18,13 @@ use Rattle.cfg.proofs.edges.edges_at.Lts as lts
 use Rattle.cfg.proofs.edges.branch.Reads as branch-reads
 use Rattle.cfg.proofs.edges.plain.Reads as plain-reads
 use Rattle.cfg.proofs.flow.flow_of.Reads as flow-of-reads
-use Rattle.cfg.proofs.flow.target_of.Reads as target-of-reads
-use Rattle.lua51_deserializer.proofs.instruction.c_of.Reads as c-of-reads
+use Rattle.cfg.proofs.flow.landing.Reads as landing-reads
+use Rattle.lua51_instruction.proofs.instruction.c_of.Reads as c-of-reads
 
 -- ------------------------------------------------------------ what holds where the flow is known
 
 abbrev Known : Type 0
-Known = lts.After-flow-of (flow-of-reads.Asked, flow-of-reads.Learnt, plain-reads.Asked, plain-reads.Learnt, c-of-reads.Asked, c-of-reads.Learnt, target-of-reads.Asked, target-of-reads.Learnt, branch-reads.Asked, branch-reads.Learnt) reads.Pre reads.Post
+Known = lts.After-flow-of (flow-of-reads.Asked, flow-of-reads.Learnt, plain-reads.Asked, plain-reads.Learnt, c-of-reads.Asked, c-of-reads.Learnt, landing-reads.Asked, landing-reads.Learnt, branch-reads.Asked, branch-reads.Learnt) reads.Pre reads.Post
 
 by-flow : {es : List Edge} (c : Known) (f : Flow) → c .flow-of .result ≡ f → (p : Proto) → let a = c .before .before .before .before .args in p .words ≡ a .words .now → es ≡ leaving p (a .i) (flowMeant f) → es ≡ cond (ltb (a .i) (size p)) (leaving p (a .i) (flowAt p (a .i))) []
 by-flow {es} c f k p e q =
@@ -81,8 +81,8 @@ plain-requires-3 c κs = search needs
 enum-told-3 : tie.Need-enum-told-3
 enum-told-3 c = search needs
 
-target-of-requires : tie.Need-target-of-requires
-target-of-requires c κs = search needs
+landing-requires : tie.Need-landing-requires
+landing-requires c κs = search needs
 
 plain-requires-4 : tie.Need-plain-requires-4
 plain-requires-4 c κs = search needs
@@ -114,8 +114,8 @@ branch-requires-2 c κs = search needs
 enum-told-6 : tie.Need-enum-told-6
 enum-told-6 c = search needs
 
-target-of-requires-2 : tie.Need-target-of-requires-2
-target-of-requires-2 c κs = search needs
+landing-requires-2 : tie.Need-landing-requires-2
+landing-requires-2 c κs = search needs
 
 plain-requires-5 : tie.Need-plain-requires-5
 plain-requires-5 c κs = search needs
@@ -123,8 +123,8 @@ plain-requires-5 c κs = search needs
 enum-told-7 : tie.Need-enum-told-7
 enum-told-7 c = search needs
 
-target-of-requires-3 : tie.Need-target-of-requires-3
-target-of-requires-3 c κs = search needs
+landing-requires-3 : tie.Need-landing-requires-3
+landing-requires-3 c κs = search needs
 
 add-branch-5 : tie.Need-add-branch-5
 add-branch-5 c = search needs
@@ -157,7 +157,7 @@ returns-4 c = λ p e. by-flow (c .before .before .before .before .before) Skip (
 
 returns-5 : tie.Need-returns-5
 unfolding leaving
-returns-5 c = λ p e. by-flow (c .before .before .before .before) Jump (c .before .before .enum-told3 .given .1) p e (rw (e, ← (c .before .target-of .ensures)) (c .plain4 .ensures))
+returns-5 c = λ p e. by-flow (c .before .before .before .before) Jump (c .before .before .enum-told3 .given .1) p e (rw (← (c .before .landing .ensures p e)) (c .plain4 .ensures))
 
 returns-6 : tie.Need-returns-6
 unfolding leaving
@@ -169,11 +169,11 @@ returns-7 c = λ p e. by-flow (c .before .before .before) TestSet (c .before .en
 
 returns-8 : tie.Need-returns-8
 unfolding leaving
-returns-8 c = λ p e. by-flow (c .before .before .before .before) LoopEntry (c .before .before .enum-told6 .given .1) p e (rw (e, ← (c .before .target-of2 .ensures)) (c .plain5 .ensures))
+returns-8 c = λ p e. by-flow (c .before .before .before .before) LoopEntry (c .before .before .enum-told6 .given .1) p e (rw (← (c .before .landing2 .ensures p e)) (c .plain5 .ensures))
 
 returns-9 : tie.Need-returns-9
 unfolding leaving
-returns-9 c = λ p e. by-flow (c .before .before .before .before) NumericLoop (c .before .before .enum-told7 .given .1) p e (rw (e, ← (c .before .target-of3 .ensures)) (c .branch3 .ensures))
+returns-9 c = λ p e. by-flow (c .before .before .before .before) NumericLoop (c .before .before .enum-told7 .given .1) p e (rw (← (c .before .landing3 .ensures p e)) (c .branch3 .ensures))
 
 returns-10 : tie.Need-returns-10
 unfolding leaving
@@ -202,7 +202,7 @@ edges-at-spec =
     add-plain-3
     plain-requires-3
     enum-told-3
-    target-of-requires
+    landing-requires
     plain-requires-4
     enum-told-4
     add-branch
@@ -213,10 +213,10 @@ edges-at-spec =
     add-branch-4
     branch-requires-2
     enum-told-6
-    target-of-requires-2
+    landing-requires-2
     plain-requires-5
     enum-told-7
-    target-of-requires-3
+    landing-requires-3
     add-branch-5
     branch-requires-3
     enum-told-8

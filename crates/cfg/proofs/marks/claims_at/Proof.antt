@@ -3,10 +3,10 @@ use Prim.Native.Nat.{ℕ}
 use mathlib.Core.List.{List}
 use mathlib.Core.Path.{_≡_, refl}
 use borrow.Author.Tests.{ne-eqb}
-use Rattle.lua51_deserializer.specs.declared.instruction.Flow.{Flow}
-use Rattle.lua51_deserializer.specs.declared.instruction.Flow.the-variants.{Straight, Skip, Jump, Test, TestSet, LoopEntry, NumericLoop, GenericLoop, Exit}
-use Rattle.lua51_deserializer.specs.Instruction.{flowMeant}
-use Rattle.lua51_deserializer.specs.Proto.{Proto, flowAt}
+use Rattle.lua51_instruction.specs.declared.instruction.Flow.{Flow}
+use Rattle.lua51_instruction.specs.declared.instruction.Flow.the-variants.{Straight, Skip, Jump, Test, TestSet, LoopEntry, NumericLoop, GenericLoop, Exit}
+use Rattle.lua51_instruction.specs.Instruction.{flowMeant}
+use Rattle.lua51_instruction.specs.Proto.{Proto, flowAt}
 use Rattle.cfg.specs.Graph.{claims}
 use Rattle.cfg.proofs.Claims.{at-flow}
 use borrow.Author.Needs.{needs}
@@ -15,13 +15,13 @@ use Rattle.cfg.proofs.marks.claims_at.Tie as tie
 use Rattle.cfg.proofs.marks.claims_at.Reads as reads
 use Rattle.cfg.proofs.marks.claims_at.Lts as lts
 use Rattle.cfg.proofs.flow.flow_of.Reads as flow-of-reads
-use Rattle.cfg.proofs.flow.target_of.Reads as target-of-reads
-use Rattle.lua51_deserializer.proofs.instruction.c_of.Reads as c-of-reads
+use Rattle.cfg.proofs.flow.landing.Reads as landing-reads
+use Rattle.lua51_instruction.proofs.instruction.c_of.Reads as c-of-reads
 
 -- ------------------------------------------------------------ what holds where the flow is known
 
 abbrev Known : Type 0
-Known = lts.After-flow-of (flow-of-reads.Asked, flow-of-reads.Learnt, c-of-reads.Asked, c-of-reads.Learnt, target-of-reads.Asked, target-of-reads.Learnt) reads.Pre reads.Post
+Known = lts.After-flow-of (flow-of-reads.Asked, flow-of-reads.Learnt, c-of-reads.Asked, c-of-reads.Learnt, landing-reads.Asked, landing-reads.Learnt) reads.Pre reads.Post
 
 by-flow : {xs : List ℕ} (c : Known) (f : Flow) → c .flow-of .result ≡ f → (p : Proto) → let a = c .before .before .before .args in p .words ≡ a .words .now → xs ≡ claims p (a .i) (flowMeant f) → xs ≡ claims p (a .i) (flowAt p (a .i))
 by-flow {xs} c f k p e q =
@@ -64,8 +64,8 @@ enum-told-3 c = search needs
 add-t13 : tie.Need-add-t13
 add-t13 c = search needs
 
-target-of-requires : tie.Need-target-of-requires
-target-of-requires c κs = search needs
+landing-requires : tie.Need-landing-requires
+landing-requires c κs = search needs
 
 enum-told-4 : tie.Need-enum-told-4
 enum-told-4 c = search needs
@@ -91,8 +91,8 @@ enum-told-6 c = search needs
 add-t19 : tie.Need-add-t19
 add-t19 c = search needs
 
-target-of-requires-2 : tie.Need-target-of-requires-2
-target-of-requires-2 c κs = search needs
+landing-requires-2 : tie.Need-landing-requires-2
+landing-requires-2 c κs = search needs
 
 enum-told-7 : tie.Need-enum-told-7
 enum-told-7 c = search needs
@@ -100,8 +100,8 @@ enum-told-7 c = search needs
 add-t21 : tie.Need-add-t21
 add-t21 c = search needs
 
-target-of-requires-3 : tie.Need-target-of-requires-3
-target-of-requires-3 c κs = search needs
+landing-requires-3 : tie.Need-landing-requires-3
+landing-requires-3 c κs = search needs
 
 enum-told-8 : tie.Need-enum-told-8
 enum-told-8 c = search needs
@@ -128,7 +128,7 @@ returns-3 c = λ p e. by-flow (c .before .before .before .before) Skip (c .befor
 
 returns-4 : tie.Need-returns-4
 unfolding claims
-returns-4 c = λ p e. by-flow (c .before .before .before) Jump (c .before .enum-told3 .given .1) p e (rw (e, c .target-of .ensures))
+returns-4 c = λ p e. by-flow (c .before .before .before) Jump (c .before .enum-told3 .given .1) p e (rw (c .landing .ensures p e))
 
 returns-5 : tie.Need-returns-5
 unfolding claims
@@ -140,11 +140,11 @@ returns-6 c = λ p e. by-flow (c .before .before) TestSet (c .enum-told5 .given 
 
 returns-7 : tie.Need-returns-7
 unfolding claims
-returns-7 c = λ p e. by-flow (c .before .before .before) LoopEntry (c .before .enum-told6 .given .1) p e (rw (e, c .target-of2 .ensures))
+returns-7 c = λ p e. by-flow (c .before .before .before) LoopEntry (c .before .enum-told6 .given .1) p e (rw (c .landing2 .ensures p e))
 
 returns-8 : tie.Need-returns-8
 unfolding claims
-returns-8 c = λ p e. by-flow (c .before .before .before) NumericLoop (c .before .enum-told7 .given .1) p e (rw (e, c .target-of3 .ensures))
+returns-8 c = λ p e. by-flow (c .before .before .before) NumericLoop (c .before .enum-told7 .given .1) p e (rw (c .landing3 .ensures p e))
 
 returns-9 : tie.Need-returns-9
 unfolding claims
@@ -169,7 +169,7 @@ claims-at-spec =
     add-t12
     enum-told-3
     add-t13
-    target-of-requires
+    landing-requires
     enum-told-4
     add-t15
     add-t16
@@ -178,10 +178,10 @@ claims-at-spec =
     add-t18
     enum-told-6
     add-t19
-    target-of-requires-2
+    landing-requires-2
     enum-told-7
     add-t21
-    target-of-requires-3
+    landing-requires-3
     enum-told-8
     add-t23
     add-t24

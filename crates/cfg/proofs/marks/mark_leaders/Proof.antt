@@ -4,9 +4,10 @@ use native.Mathlib.Omega.{arith}
 use mathlib.Core.Path.{_≡_, refl, _∙_, sym}
 use lib.ListN.{length, getD}
 use borrow.Author.Needs.{needs}
-use Rattle.lua51_deserializer.specs.Proto.{Proto, size}
+use Rattle.lua51_instruction.specs.Proto.{Proto, size}
 use Rattle.cfg.specs.Arrays.{bit, mark}
-use Rattle.cfg.proofs.Tables.{started-at, tabled}
+use Rattle.cfg.proofs.Tables.{started-at}
+use Rattle.basics.proofs.Tables.{tabled}
 use Rattle.cfg.proofs.Claims.{leadsBy, leads-none, leads-all, marks-turn}
 use Rattle.cfg.proofs.marks.mark_leaders.Statement.{statement}
 use Rattle.cfg.proofs.marks.mark_leaders.Tie as tie
@@ -18,8 +19,8 @@ Inv-loop words marks₀ i₀ marks i =
 abbrev μ-loop : tie.MeasureT-loop
 μ-loop words marks₀ i₀ marks i = length words - i
 
-clear-requires : tie.Need-clear-requires Inv-loop μ-loop
-clear-requires c κs = search needs
+clear-bytes-requires : tie.Need-clear-bytes-requires Inv-loop μ-loop
+clear-bytes-requires c κs = search needs
 
 put-mark-requires : tie.Need-put-mark-requires Inv-loop μ-loop
 put-mark-requires c κs = search needs
@@ -31,7 +32,7 @@ loop-holds c =
     let n = length (cleared .before .before .before .before .args .marks .now) in (
       omega arith,
       refl,
-      λ p e j lt. started-at n j (cleared .clear .last .0) (put .put-mark .last .0) (cleared .clear .ensures) (put .put-mark .ensures) (omega (arith, put .put-mark .kept .0, cleared .clear .kept .0)) ∙ sym (leads-none p j),
+      λ p e j lt. started-at n j (cleared .clear-bytes .last .0) (put .put-mark .last .0) (cleared .clear-bytes .ensures) (put .put-mark .ensures) (omega (arith, put .put-mark .kept .0, cleared .clear-bytes .kept .0)) ∙ sym (leads-none p j),
     )
 
 claims-at-requires : tie.Need-claims-at-requires Inv-loop μ-loop
@@ -61,7 +62,7 @@ loop-again c =
 same-length : tie.Need-same-length Inv-loop μ-loop
 same-length c =
     let put = c .before .before .before .before in
-    c .before .loop .inv .1 ∙ (put .put-mark .kept .0 ∙ put .before .before .before .before .clear .kept .0)
+    c .before .loop .inv .1 ∙ (put .put-mark .kept .0 ∙ put .before .before .before .before .clear-bytes .kept .0)
 
 returns : tie.Need-returns Inv-loop μ-loop
 returns c =
@@ -77,7 +78,7 @@ mark-leaders-spec =
     (tie.spec
     Inv-loop
     μ-loop
-    clear-requires
+    clear-bytes-requires
     put-mark-requires
     loop-holds
     claims-at-requires

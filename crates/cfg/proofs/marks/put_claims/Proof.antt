@@ -1,5 +1,5 @@
 -- `marks::put_claims`: one mark after another. Assumes nothing.
-use Rattle.cfg.specs.Arrays.{marked}
+use Rattle.cfg.specs.Arrays.{putMarks}
 use borrow.Author.Needs.{needs}
 use Rattle.cfg.proofs.marks.put_claims.Statement.{statement}
 use Rattle.cfg.proofs.marks.put_claims.Tie as tie
@@ -23,21 +23,21 @@ put-mark-requires-3 : tie.Need-put-mark-requires-3
 put-mark-requires-3 c κs = search needs
 
 returns : tie.Need-returns
-unfolding marked
+unfolding putMarks
 returns c = rw (c .enum-told .given .1)
 
 same-length : tie.Need-same-length
 same-length c = search needs
 
 returns-2 : tie.Need-returns-2
-unfolding marked
+unfolding putMarks
 returns-2 c = rw (c .before .before .before .before .before .made .given .1) (c .before .before .put-mark .ensures)
 
 same-length-2 : tie.Need-same-length-2
 same-length-2 c = search needs
 
 returns-3 : tie.Need-returns-3
-unfolding marked
+unfolding putMarks
 returns-3 c =
     let first = c .before .before .before .before .before .before in
     rw (first .before .before .before .made2 .given .1, ← (first .put-mark2 .ensures)) (c .before .before .put-mark3 .ensures)

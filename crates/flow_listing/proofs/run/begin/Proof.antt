@@ -3,7 +3,7 @@ use native.Mathlib.Omega.{arith}
 use mathlib.Core.Path.{sym, ap, _∙_}
 use borrow.Author.Needs.{needs}
 use Rattle.judging.specs.Answers.{answerOf}
-use Rattle.flow_listing.proofs.Pieces.{refused-told, pieces-refused}
+use Rattle.flow_listing.proofs.Pieces.{pieces-refused}
 use Rattle.flow_listing.proofs.run.begin.Statement.{statement}
 use Rattle.flow_listing.proofs.run.begin.Tie as tie
 
@@ -13,13 +13,15 @@ walk-and-judge-requires c κs = search needs
 enum-known-answer : tie.Need-enum-known-answer
 enum-known-answer c = search needs
 
+enum-told : tie.Need-enum-told
+enum-told c = search needs
+
 returns : tie.Need-returns
 returns c =
-    let w = c .before .before in
-    let answer = w .walk-and-judge .result .answer in
+    let w = c .before .before .before in
     record {
       listable = λ f h. absurd (omega arith);
-      pieces = pieces-refused _ (answerOf answer) (w .walk-and-judge .ensures .0) (refused-told answer (c .match .keys2));
+      pieces = pieces-refused _ (w .walk-and-judge .result .answer) _ (w .walk-and-judge .ensures .0) (c .enum-told .given .1);
     }
 
 measure-requires : tie.Need-measure-requires
@@ -33,4 +35,4 @@ returns-2 c = search needs
 pub begin-spec : {M : Type 1} → statement M
 begin-spec =
     tie.close
-    (tie.spec walk-and-judge-requires enum-known-answer returns measure-requires returns-2)
+    (tie.spec walk-and-judge-requires enum-known-answer enum-told returns measure-requires returns-2)

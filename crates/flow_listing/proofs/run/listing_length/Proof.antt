@@ -14,7 +14,7 @@ returns : tie.Need-returns
 returns c =
     let p = c .before in
     let a = p .before .before .before in
-    counted _ _ _ _ (listed _ _ _ (a .pre) _ _ _ _ (p .put-function .ensures))
+    counted _ _ _ _ (listed _ _ _ (a .pre) _ _ _ _ (p .put-function .ensures .0))
 
 pub listing-length-spec : {M : Type 1} → statement M
 listing-length-spec =

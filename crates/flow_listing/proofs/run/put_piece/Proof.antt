@@ -25,7 +25,7 @@ returns c =
     let a = t .before .before .before .before in
     let begun = a .pre .0 in
     let below = t .if1 .taken in
-    let e = listed _ _ _ (begun .listable (a .args .k) below) _ _ _ _ (p .put-function .ensures) in
+    let e = listed _ _ _ (begun .listable (a .args .k) below) _ _ _ _ (p .put-function .ensures .0) in
     piece-printed _ _ _ _ _ (rw (piece-below _ _ _ begun below) e) (a .pre .1)
 
 returns-2 : tie.Need-returns-2
@@ -33,11 +33,11 @@ returns-2 c =
     let a = c .before .before .before .before .before in
     piece-printed _ _ _ _ _ (rw (piece-past _ _ _ (a .pre .0) (c .if2 .taken)) (sym (puts-none _))) (a .pre .1)
 
-enum-told : tie.Need-enum-told
-enum-told c = search needs
+enum-known-end : tie.Need-enum-known-end
+enum-known-end c = search needs
 
-refusal-of-requires : tie.Need-refusal-of-requires
-refusal-of-requires c κs = search needs
+numbers-of-requires : tie.Need-numbers-of-requires
+numbers-of-requires c κs = search needs
 
 put-refusal-requires : tie.Need-put-refusal-requires
 put-refusal-requires c κs = search needs
@@ -48,12 +48,15 @@ same-length-2 c = search needs
 returns-3 : tie.Need-returns-3
 returns-3 c =
     let p = c .before .before in
-    let m = p .before .before .before in
-    let a = m .before .before .before .before .before .before in
-    let x = p .before .refusal-of in
+    let m = p .before .before .before .before in
+    let a = m .before .before .before .before .before .before .before in
+    let x = p .before .numbers-of in
     let here : a .args .k ≡ a .args .run .whole = omega arith in
-    let e = piece-refused _ _ _ (a .pre .0) (x .result) (m .match .keys2) (x .ensures) here in
+    let e = piece-refused _ _ _ (a .pre .0) _ (x .result) (m .end .given .1) (x .ensures) here in
     piece-printed _ _ _ _ _ (rw e (p .put-refusal .ensures)) (a .pre .1)
+
+enum-told : tie.Need-enum-told
+enum-told c = search needs
 
 returns-4 : tie.Need-returns-4
 returns-4 c =
@@ -70,9 +73,10 @@ put-piece-spec =
     same-length
     returns
     returns-2
-    enum-told
-    refusal-of-requires
+    enum-known-end
+    numbers-of-requires
     put-refusal-requires
     same-length-2
     returns-3
+    enum-told
     returns-4)

@@ -4,28 +4,29 @@ use Prim.Native.Nat.{_+_, _-_, _≤_}
 use native.Mathlib.Omega.{arith}
 use mathlib.Core.Path.{_≡_, _∙_, sym}
 use lib.ListN.{length}
-use Rattle.lines.specs.Out.{output, puts}
-use Rattle.lua51_deserializer.specs.Proto.{Proto, size}
-use Rattle.lua51_deserializer.specs.Range.{over}
-use Rattle.cfg.specs.Arrays.{leaders}
-use Rattle.listing.specs.Held.{Held, Fronts, Numbered, codeLines}
+use Rattle.lines.specs.Out.{output, puts, Prints}
+use Rattle.lines.proofs.Puts.{prints-none, prints-then}
+use Rattle.lua51_instruction.specs.Proto.{Proto, size}
+use Rattle.basics.specs.Range.{over}
+use Rattle.cfg_notes.specs.Notes.{notesOf}
+use Rattle.block_lines.specs.Lines.{run-numbers, Held, codeLines}
 use Rattle.listing.proofs.BlockLines.{range-turn, range-done}
 use borrow.Author.Needs.{needs}
 use Rattle.listing.proofs.blocks.put_code_blocks.Statement.{statement}
 use Rattle.listing.proofs.blocks.put_code_blocks.Tie as tie
 
 abbrev Inv-loop : tie.InvT-loop
-Inv-loop out₀ at run₀ head words nested captured marks numbers counts earlier fronts next₀ j₀ out run next j =
+Inv-loop out₀ at run₀ head words nested nups notes next₀ j₀ out run next j =
     (length out ≡ length out₀) × (length run ≡ length run₀) × (j ≤ length words + 1)
-    × ((p : Proto) → Held p head words nested captured (length run₀) → marks ≡ leaders p → Numbered p numbers counts earlier → Fronts p fronts
+    × ((p : Proto) → Held p head words nested nups → run-numbers ≤ length run₀ → notes ≡ notesOf p
     → puts (output out₀ at) (over (codeLines p) 0 (size p + 1)) ≡ puts (output out next) (over (codeLines p) j (size p + 1 - j)))
+    × Prints (output out₀ at) (output out next)
 
 abbrev μ-loop : tie.MeasureT-loop
-μ-loop out₀ at run₀ head words nested captured marks numbers counts earlier fronts next₀ j₀ out run next j =
-    length words + 1 - j
+μ-loop out₀ at run₀ head words nested nups notes next₀ j₀ out run next j = length words + 1 - j
 
 loop-holds : tie.Need-loop-holds Inv-loop μ-loop
-loop-holds c = (search needs, search needs, search needs, λ p held marks n fronts. let all : size p + 1 - 0 ≡ size p + 1 = omega arith in rw all)
+loop-holds c = (search needs, search needs, search needs, λ p held roomy noted. let all : size p + 1 - 0 ≡ size p + 1 = omega arith in rw all, prints-none _)
 
 put-range-requires : tie.Need-put-range-requires Inv-loop μ-loop
 put-range-requires c κs = search needs
@@ -40,18 +41,17 @@ loop-again : tie.Need-loop-again Inv-loop μ-loop
 loop-again c =
     let r = c .before .before .before .before in
     let l = r .before .before .before .before in
-    let a = l .before .before .before .before .before .before .before .before .before .before .before .args in
     let j = l .loop .j in (
       search needs,
       search needs,
       search needs,
-      λ p held marks n fronts.
-          let ok = held .accepted in
-          let le : j ≤ size p = rw (ok .words) (search needs) in
+      λ p held roomy noted.
+          let le : j ≤ size p = rw (held .stands .words) (search needs) in
           let left : size p + 1 - (j + 1) ≡ size p + 1 - j - 1 = omega arith in
           let turn = range-turn (codeLines p) (output (l .loop .out) (l .loop .next)) j (size p + 1 - j) (omega arith) in
-          let here = rw (← (l .loop .inv .1)) at held in
-          rw (r .put-range .ensures p here marks n fronts le, left) (l .loop .inv .3 p held marks n fronts ∙ turn),
+          let here : run-numbers ≤ length (l .loop .run) = omega (arith, l .loop .inv .1, roomy) in
+          rw (r .put-range .ensures .0 p held here noted le, left) (l .loop .inv .3 p held roomy noted ∙ turn),
+      prints-then (l .loop .inv .4) (r .put-range .ensures .1),
     )
 
 same-length : tie.Need-same-length Inv-loop μ-loop
@@ -61,10 +61,13 @@ same-length-2 : tie.Need-same-length-2 Inv-loop μ-loop
 same-length-2 c = search needs
 
 returns : tie.Need-returns Inv-loop μ-loop
-returns c p held marks n fronts =
-    let l = c .before in
-    let none : size p + 1 - l .loop .j ≡ 0 = rw (held .accepted .words) (omega (arith, c .loop-test .left)) in
-    sym (l .loop .inv .3 p held marks n fronts ∙ range-done (codeLines p) (output (l .loop .out) (l .loop .next)) (l .loop .j) (size p + 1 - l .loop .j) (omega arith))
+returns c =
+    let l = c .before in (
+      λ p held roomy noted.
+          let none : size p + 1 - l .loop .j ≡ 0 = rw (held .stands .words) (omega (arith, c .loop-test .left)) in
+          sym (l .loop .inv .3 p held roomy noted ∙ range-done (codeLines p) (output (l .loop .out) (l .loop .next)) (l .loop .j) (size p + 1 - l .loop .j) (omega arith)),
+      l .loop .inv .4,
+    )
 
 pub put-code-blocks-spec : {M : Type 1} → statement M
 put-code-blocks-spec =

@@ -15,8 +15,8 @@ returns c = let h = c .before in
 last-fault-requires : tie.Need-last-fault-requires
 last-fault-requires c κs = search needs
 
-last-place-requires : tie.Need-last-place-requires
-last-place-requires c κs = search needs
+before-requires : tie.Need-before-requires
+before-requires c κs = search needs
 
 returns-2 : tie.Need-returns-2
 returns-2 c = let l = c .before .before in
@@ -40,7 +40,7 @@ check-words-spec =
     head-fault-requires
     returns
     last-fault-requires
-    last-place-requires
+    before-requires
     returns-2
     words-verdict-requires
     returns-3)

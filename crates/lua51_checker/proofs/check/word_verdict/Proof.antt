@@ -36,13 +36,13 @@ returns-2 c =
     λ p us s.
     let d = rw (w .word-at .ensures) at (f .before .before .decode .ensures) in
     target-outside p (a .i) (f .operand-fault .ensures p (a .i) (a .words .now) us s d) (c .before .if1 .left)
-    (l .lands-inside .ensures p (s .words) (cc) ∙ ap (landsInside p (a .i)) (cc)) (c .if2 .taken)
+    (l .lands-inside .ensures p (s .words) ∙ ap (landsInside p (a .i)) (cc)) (c .if2 .taken)
 
 asks-requires : tie.Need-asks-requires
 asks-requires c κs = search needs
 
-word-behind-requires : tie.Need-word-behind-requires
-word-behind-requires c κs = search needs
+word-after-requires : tie.Need-word-after-requires
+word-after-requires c κs = search needs
 
 opcode-of-requires : tie.Need-opcode-of-requires
 opcode-of-requires c κs = search needs
@@ -57,7 +57,7 @@ returns-3 c =
     λ p us s.
     let d = rw (w .word-at .ensures) at (f .before .before .decode .ensures) in
     jump-missing p (a .i) (f .operand-fault .ensures p (a .i) (a .words .now) us s d) (e .before .if1 .left)
-    (l .lands-inside .ensures p (s .words) (cc) ∙ ap (landsInside p (a .i)) (cc)) (e .if2 .left) (c .if3 .taken) (cc)
+    (l .lands-inside .ensures p (s .words) ∙ ap (landsInside p (a .i)) (cc)) (e .if2 .left) (c .if3 .taken) (cc)
 
 returns-4 : tie.Need-returns-4
 returns-4 c =
@@ -69,7 +69,7 @@ returns-4 c =
     λ p us s.
     let d = rw (w .word-at .ensures) at (f .before .before .decode .ensures) in
     word-right p (a .i) (f .operand-fault .ensures p (a .i) (a .words .now) us s d) (e .before .if1 .left)
-    (l .lands-inside .ensures p (s .words) (cc) ∙ ap (landsInside p (a .i)) (cc)) (e .if2 .left) (c .if3 .left) (cc)
+    (l .lands-inside .ensures p (s .words) ∙ ap (landsInside p (a .i)) (cc)) (e .if2 .left) (c .if3 .left) (cc)
 
 pub word-verdict-spec : {M : Type 1} → statement M
 word-verdict-spec =
@@ -82,7 +82,7 @@ word-verdict-spec =
     returns
     returns-2
     asks-requires
-    word-behind-requires
+    word-after-requires
     opcode-of-requires
     returns-3
     returns-4)

@@ -6,7 +6,7 @@ use mathlib.Core.Path.{_≡_, sym, _∙_}
 use lib.ListN.{length}
 use borrow.Author.Needs.{needs}
 use Rattle.lua51_function.specs.Function.{Stands}
-use Rattle.lua51_deserializer.specs.Proto.{Proto, size}
+use Rattle.lua51_instruction.specs.Proto.{Proto, size}
 use Rattle.lua51_lifter.specs.Check.{firstRefusal, wordVerdict}
 use Rattle.lua51_uses.proofs.FirstRefusal.{first-refused, first-passed, first-end}
 use Rattle.lua51_checker.proofs.check.words_verdict.Statement.{statement}
@@ -29,11 +29,14 @@ word-verdict-requires c κs = search needs
 enum-told : tie.Need-enum-told Inv-loop μ-loop
 enum-told c = search needs
 
+enum-told-2 : tie.Need-enum-told-2 Inv-loop μ-loop
+enum-told-2 c = search needs
+
 returns : tie.Need-returns Inv-loop μ-loop
 returns c = λ p us s.
-    let w = c .before in
+    let w = c .before .before in
     let l = w .before .before .loop in
-    first-refused (wordVerdict p) (size p) (l .i) (w .word-verdict .result) (rw (s .words) (w .before .loop-test .taken)) (w .word-verdict .ensures p us s) (c .match .keys2)
+    first-refused (wordVerdict p) (size p) (l .i) (w .word-verdict .result) (rw (s .words) (w .before .loop-test .taken)) (w .word-verdict .ensures p us s) _ (c .enum-told2 .given .1)
     ∙ l .inv .1 p us s
 
 add-i : tie.Need-add-i Inv-loop μ-loop
@@ -66,6 +69,7 @@ words-verdict-spec =
     loop-holds
     word-verdict-requires
     enum-told
+    enum-told-2
     returns
     add-i
     loop-less

@@ -17,7 +17,7 @@ use borrow.Fn.PlainCycle.{Measures, is, falls, and}
 use Rattle.lua51_deserializer.proofs.chunk.function.Reads as function-reads
 use Rattle.lua51_deserializer.proofs.chunk.function.Kinds as function-kinds
 use Rattle.lua51_deserializer.proofs.chunk.+function.Lts-function as lts
-use Rattle.lua51_deserializer.proofs.bytes.int_at.Reads as int-at-reads
+use Rattle.lua51_value.proofs.bytes.int_at.Reads as int-at-reads
 use Rattle.lua51_deserializer.proofs.chunk.begin.Reads as begin-reads
 use Rattle.lua51_deserializer.proofs.chunk.finish.Reads as finish-reads
 use Rattle.lua51_deserializer.proofs.chunk.nested_count.Reads as nested-count-reads
@@ -99,10 +99,11 @@ module _ (t : ℕ) where
   enum-known-cursor : lts.Need-enum-known-cursor (claims t) (function-at t) function-reads.Post Inv μ
   enum-known-cursor c = search needs
 
+  enum-told : lts.Need-enum-told (claims t) (function-at t) function-reads.Post Inv μ
+  enum-told c = search needs
+
   returns : lts.Need-returns (claims t) (function-at t) function-reads.Post Inv μ
-  returns c =
-      let a = c .before .before .args in
-      sticky-walk (placesOf (a .w .functions)) (function (a .s .now) (a .depth) (a .parent)) (a .w .cursor) (c .match .keys2)
+  returns c = rw (c .enum-told .given .1)
 
   too-many-requires : lts.Need-too-many-requires (claims t) (function-at t) function-reads.Post Inv μ
   too-many-requires c κs = search needs
@@ -138,16 +139,19 @@ module _ (t : ℕ) where
   enum-known-behind : lts.Need-enum-known-behind (claims t) (function-at t) function-reads.Post Inv μ
   enum-known-behind c = search needs
 
+  enum-told-2 : lts.Need-enum-told-2 (claims t) (function-at t) function-reads.Post Inv μ
+  enum-told-2 c = search needs
+
   returns-4 : lts.Need-returns-4 (claims t) (function-at t) function-reads.Post Inv μ
   returns-4 c =
-      let b = c .before in
+      let b = c .before .before in
       let d = b .before .before .before .before in
       let a = d .before .before .before .args in
       let ps = placesOf (a .w .functions) in
       goes-walk ps (function (a .s .now) (a .depth) (a .parent)) (a .w .cursor) _ _ (d .cursor .given .1)
       (function-stops (a .s .now) (a .depth) (a .parent) ps (d .cursor .given .0 .0) (b .before .before .if1 .left)
       (a .w .functions .count) (places-length (a .w .functions)) (b .before .if2 .left)
-      (b .begin .result .cursor) (placesOf (b .begin .result .functions)) (b .begin .ensures) (c .match2 .keys2))
+      (b .begin .result .cursor) (placesOf (b .begin .result .functions)) (b .begin .ensures) _ (c .enum-told2 .given .1))
 
   nested-count-requires : lts.Need-nested-count-requires (claims t) (function-at t) function-reads.Post Inv μ
   nested-count-requires c κs = search needs
@@ -173,20 +177,24 @@ module _ (t : ℕ) where
   function-requires : lts.Need-function-requires (claims t) (function-at t) function-reads.Post Inv μ
   function-requires c κs = (omega arith, c .before .loop .inv .1)
 
-  enum-told : lts.Need-enum-told (claims t) (function-at t) function-reads.Post Inv μ
-  enum-told c = search needs
+  enum-told-3 : lts.Need-enum-told-3 (claims t) (function-at t) function-reads.Post Inv μ
+  enum-told-3 c = search needs
+
+  enum-told-4 : lts.Need-enum-told-4 (claims t) (function-at t) function-reads.Post Inv μ
+  enum-told-4 c = search needs
 
   returns-5 : lts.Need-returns-5 (claims t) (function-at t) function-reads.Post Inv μ
   returns-5 c =
-      let v = c .before .function .result in
-      let l = c .before .before .before in
+      let b = c .before .before in
+      let v = b .function .result in
+      let l = b .before .before in
       let n = l .before .int-at .result in
       let i = l .loop .i in
       let ps = placesOf (v .functions) in
       let rest : walkOf v ≡ (walkOf (l .loop .walked) next many (child l) (n - i)) =
-      sticky-walk ps (many (child l) (n - (i + 1))) (v .cursor) (c .match3 .keys2)
-      ∙ many-turn (child l) n i (walkOf (l .loop .walked)) (walkOf v) (c .before .before .loop-test .taken) (c .before .function .ensures) in
-      ending l (walkOf v) (sticky-walk ps (end l) (v .cursor) (c .match3 .keys2) ∙ ap (λ (x : Walk). x next end l) rest)
+      sticky-walk ps (many (child l) (n - (i + 1))) (v .cursor) _ (c .enum-told4 .given .1)
+      ∙ many-turn (child l) n i (walkOf (l .loop .walked)) (walkOf v) (b .before .loop-test .taken) (b .function .ensures) in
+      ending l (walkOf v) (sticky-walk ps (end l) (v .cursor) _ (c .enum-told4 .given .1) ∙ ap (λ (x : Walk). x next end l) rest)
 
   add-i : lts.Need-add-i (claims t) (function-at t) function-reads.Post Inv μ
   add-i c = search needs
@@ -221,4 +229,4 @@ pub +function-spec : {M : Type 1} → statement M
 +function-spec =
     close
     μ-function
-    λ t. lts.spec (claims t) (function-at t) function-reads.Post Inv μ (enum-known-cursor t) (returns t) (too-many-requires t) (returns-2 t) (too-many-requires-2 t) (returns-3 t) (cast-me t) (begin-requires t) (enum-known-behind t) (returns-4 t) (nested-count-requires t) (int-at-requires t) (loop-holds t) (sub-function t) (function-requires t) (enum-told t) (returns-5 t) (add-i t) (loop-less t) (loop-again t) (finish-requires t) (returns-6 t)
+    λ t. lts.spec (claims t) (function-at t) function-reads.Post Inv μ (enum-known-cursor t) (enum-told t) (returns t) (too-many-requires t) (returns-2 t) (too-many-requires-2 t) (returns-3 t) (cast-me t) (begin-requires t) (enum-known-behind t) (enum-told-2 t) (returns-4 t) (nested-count-requires t) (int-at-requires t) (loop-holds t) (sub-function t) (function-requires t) (enum-told-3 t) (enum-told-4 t) (returns-5 t) (add-i t) (loop-less t) (loop-again t) (finish-requires t) (returns-6 t)

@@ -6,15 +6,18 @@ use borrow.Author.Needs.{needs}
 use borrow.Author.Tests.{eq-eqb, ne-eqb}
 use lib.ListN.{length}
 use Rattle.lua51_deserializer.specs.Chunk.{exactly}
-use Rattle.lua51_deserializer.proofs.Cursor.{sticky, goes, within}
+use Rattle.lua51_deserializer.proofs.Cursor.{goes, within}
 use Rattle.lua51_deserializer.proofs.chunk.exactly.Statement.{statement}
 use Rattle.lua51_deserializer.proofs.chunk.exactly.Tie as tie
 
 enum-known-c : tie.Need-enum-known-c
 enum-known-c c = search needs
 
+enum-told : tie.Need-enum-told
+enum-told c = search needs
+
 returns : tie.Need-returns
-returns c = let a = c .before .before .args in sticky (a .c) (exactly (a .s .now) (a .b)) (c .match .keys2)
+returns c = rw (c .enum-told .given .1)
 
 whole-requires : tie.Need-whole-requires
 whole-requires c κs = search needs
@@ -52,6 +55,7 @@ exactly-spec =
     tie.close
     (tie.spec
     enum-known-c
+    enum-told
     returns
     whole-requires
     add-behind

@@ -7,7 +7,7 @@ use lib.ListN.{length}
 use Rattle.lua51_deserializer.specs.Chunk.{finish}
 use Rattle.lua51_deserializer.specs.Walked.{placesOf}
 use Rattle.lua51_deserializer.proofs.Places.{tailed}
-use Rattle.lua51_deserializer.proofs.Nesting.{sticky-walk, goes-walk, walk-is}
+use Rattle.lua51_deserializer.proofs.Nesting.{goes-walk, walk-is}
 use Rattle.lua51_deserializer.proofs.Bounds.{bounded-here}
 use Rattle.lua51_deserializer.proofs.chunk.finish.Statement.{statement}
 use Rattle.lua51_deserializer.proofs.chunk.finish.Tie as tie
@@ -15,10 +15,11 @@ use Rattle.lua51_deserializer.proofs.chunk.finish.Tie as tie
 enum-known-cursor : tie.Need-enum-known-cursor
 enum-known-cursor c = search needs
 
+enum-told : tie.Need-enum-told
+enum-told c = search needs
+
 returns : tie.Need-returns
-returns c =
-    let a = c .before .before .args in
-    sticky-walk (placesOf (a .w .functions)) (finish (a .s .now) (a .me)) (a .w .cursor) (c .match .keys2)
+returns c = rw (c .enum-told .given .1)
 
 cast-ended : tie.Need-cast-ended
 cast-ended c =
@@ -57,6 +58,7 @@ finish-spec =
     tie.close
     (tie.spec
     enum-known-cursor
+    enum-told
     returns
     cast-ended
     mul-ended

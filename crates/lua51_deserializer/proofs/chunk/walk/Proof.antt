@@ -5,7 +5,7 @@ use borrow.Author.Needs.{needs}
 use Rattle.lua51_deserializer.specs.Chunk.{header}
 use Rattle.lua51_deserializer.specs.Cursor.{readOf}
 use Rattle.lua51_deserializer.specs.Walked.{walkOf}
-use Rattle.lua51_deserializer.specs.Range.{over}
+use Rattle.basics.specs.Range.{over}
 use Rattle.lua51_deserializer.proofs.Nesting.{walk-long, walk-whole}
 use Rattle.lua51_deserializer.proofs.Bounds.{signature-bounded}
 use Rattle.lua51_deserializer.proofs.chunk.walk.Statement.{statement}

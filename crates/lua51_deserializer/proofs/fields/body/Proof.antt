@@ -5,7 +5,7 @@ use native.Mathlib.Omega.{arith}
 use borrow.Author.Needs.{needs}
 use lib.ListN.{length}
 use Rattle.lua51_deserializer.specs.Chunk.{body}
-use Rattle.lua51_deserializer.proofs.Cursor.{sticky, goes, within}
+use Rattle.lua51_deserializer.proofs.Cursor.{goes, within}
 use Rattle.lua51_deserializer.proofs.FieldCases.{body-short, body-open, body-ends}
 use Rattle.lua51_deserializer.proofs.fields.body.Statement.{statement}
 use Rattle.lua51_deserializer.proofs.fields.body.Tie as tie
@@ -13,8 +13,11 @@ use Rattle.lua51_deserializer.proofs.fields.body.Tie as tie
 enum-known-c : tie.Need-enum-known-c
 enum-known-c c = search needs
 
+enum-told : tie.Need-enum-told
+enum-told c = search needs
+
 returns : tie.Need-returns
-returns c = let a = c .before .before .args in sticky (a .c) (body (a .s .now) (a .size)) (c .match .keys2)
+returns c = rw (c .enum-told .given .1)
 
 returns-2 : tie.Need-returns-2
 unfolding body
@@ -69,6 +72,7 @@ body-spec =
     tie.close
     (tie.spec
     enum-known-c
+    enum-told
     returns
     returns-2
     whole-requires

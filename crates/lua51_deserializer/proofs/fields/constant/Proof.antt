@@ -6,7 +6,7 @@ use borrow.Author.Needs.{needs}
 use borrow.Author.Tests.{lt-leb}
 use lib.ListN.{length}
 use Rattle.lua51_deserializer.specs.Chunk.{constant}
-use Rattle.lua51_deserializer.proofs.Cursor.{sticky, goes}
+use Rattle.lua51_deserializer.proofs.Cursor.{goes}
 use Rattle.lua51_deserializer.proofs.FieldCases.{constant-nil, constant-boolean, constant-number, constant-string, constant-other}
 use Rattle.lua51_deserializer.proofs.fields.constant.Statement.{statement}
 use Rattle.lua51_deserializer.proofs.fields.constant.Tie as tie
@@ -14,8 +14,11 @@ use Rattle.lua51_deserializer.proofs.fields.constant.Tie as tie
 enum-known-c : tie.Need-enum-known-c
 enum-known-c c = search needs
 
+enum-told : tie.Need-enum-told
+enum-told c = search needs
+
 returns : tie.Need-returns
-returns c = let a = c .before .before .args in sticky (a .c) (constant (a .s .now)) (c .match .keys2)
+returns c = rw (c .enum-told .given .1)
 
 returns-2 : tie.Need-returns-2
 unfolding constant
@@ -83,6 +86,7 @@ constant-spec =
     tie.close
     (tie.spec
     enum-known-c
+    enum-told
     returns
     returns-2
     shared-slice-read-kind

@@ -2,15 +2,18 @@
 use mathlib.Core.Path.{_∙_}
 use borrow.Author.Needs.{needs}
 use Rattle.lua51_deserializer.specs.Chunk.{countTo}
-use Rattle.lua51_deserializer.proofs.Cursor.{sticky, goes}
+use Rattle.lua51_deserializer.proofs.Cursor.{goes}
 use Rattle.lua51_deserializer.proofs.fields.count_to.Statement.{statement}
 use Rattle.lua51_deserializer.proofs.fields.count_to.Tie as tie
 
 enum-known-c : tie.Need-enum-known-c
 enum-known-c c = search needs
 
+enum-told : tie.Need-enum-told
+enum-told c = search needs
+
 returns : tie.Need-returns
-returns c = let a = c .before .before .args in sticky (a .c) (countTo (a .s .now) (a .limit)) (c .match .keys2)
+returns c = rw (c .enum-told .given .1)
 
 int-at-requires : tie.Need-int-at-requires
 int-at-requires c κs = search needs
@@ -23,4 +26,4 @@ returns-2 c = goes _ _ _ _ (c .before .before .before .c .given .1) (c .limited 
 
 pub count-to-spec : {M : Type 1} → statement M
 count-to-spec =
-    tie.close (tie.spec enum-known-c returns int-at-requires limited-requires returns-2)
+    tie.close (tie.spec enum-known-c enum-told returns int-at-requires limited-requires returns-2)

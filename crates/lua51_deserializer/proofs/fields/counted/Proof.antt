@@ -3,15 +3,18 @@ use mathlib.Core.Path.{_∙_}
 use borrow.Author.Needs.{needs}
 use Rattle.lua51_deserializer.specs.Chunk.{counted}
 use Rattle.lua51_deserializer.specs.Cursor.{elementOf}
-use Rattle.lua51_deserializer.proofs.Cursor.{sticky, goes}
+use Rattle.lua51_deserializer.proofs.Cursor.{goes}
 use Rattle.lua51_deserializer.proofs.fields.counted.Statement.{statement}
 use Rattle.lua51_deserializer.proofs.fields.counted.Tie as tie
 
 enum-known-c : tie.Need-enum-known-c
 enum-known-c c = search needs
 
+enum-told : tie.Need-enum-told
+enum-told c = search needs
+
 returns : tie.Need-returns
-returns c = let a = c .before .before .args in sticky (a .c) (counted (a .s .now) (a .limit) (elementOf (a .s .now) (a .of))) (c .match .keys2)
+returns c = rw (c .enum-told .given .1)
 
 count-to-requires : tie.Need-count-to-requires
 count-to-requires c κs = search needs
@@ -31,4 +34,4 @@ returns-2 c =
 pub counted-spec : {M : Type 1} → statement M
 counted-spec =
     tie.close
-    (tie.spec enum-known-c returns count-to-requires int-at-requires elements-requires returns-2)
+    (tie.spec enum-known-c enum-told returns count-to-requires int-at-requires elements-requires returns-2)

@@ -25,12 +25,16 @@ next-element-requires c κs = search needs
 enum-told : tie.Need-enum-told Inv-loop μ-loop
 enum-told c = search needs
 
+enum-told-2 : tie.Need-enum-told-2 Inv-loop μ-loop
+enum-told-2 c = search needs
+
 returns : tie.Need-returns Inv-loop μ-loop
 returns c =
-    let l = c .before .before .before in
+    let e = c .before .before in
+    let l = e .before .before in
     let a = l .before .before .args in
-    sticky (c .before .next-element .result) (again (elementOf (a .s .now) (a .of)) (a .n - (l .loop .i + 1))) (c .match .keys2)
-    ∙ (again-turn (elementOf (a .s .now) (a .of)) (a .n) (l .loop .i) (readOf (l .loop .read)) (readOf (c .before .next-element .result)) (c .before .before .loop-test .taken) (c .before .next-element .ensures) ∙ l .loop .inv .1)
+    sticky (e .next-element .result) (again (elementOf (a .s .now) (a .of)) (a .n - (l .loop .i + 1))) _ (c .enum-told2 .given .1)
+    ∙ (again-turn (elementOf (a .s .now) (a .of)) (a .n) (l .loop .i) (readOf (l .loop .read)) (readOf (e .next-element .result)) (e .before .loop-test .taken) (e .next-element .ensures) ∙ l .loop .inv .1)
 
 add-i : tie.Need-add-i Inv-loop μ-loop
 add-i c = search needs
@@ -60,6 +64,7 @@ elements-spec =
     loop-holds
     next-element-requires
     enum-told
+    enum-told-2
     returns
     add-i
     loop-less

@@ -5,15 +5,18 @@ use native.Mathlib.Omega.{arith}
 use borrow.Author.Needs.{needs}
 use lib.ListN.{length}
 use Rattle.lua51_deserializer.specs.Chunk.{field}
-use Rattle.lua51_deserializer.proofs.Cursor.{sticky, goes, within}
+use Rattle.lua51_deserializer.proofs.Cursor.{goes, within}
 use Rattle.lua51_deserializer.proofs.fields.field.Statement.{statement}
 use Rattle.lua51_deserializer.proofs.fields.field.Tie as tie
 
 enum-known-c : tie.Need-enum-known-c
 enum-known-c c = search needs
 
+enum-told : tie.Need-enum-told
+enum-told c = search needs
+
 returns : tie.Need-returns
-returns c = let a = c .before .before .args in sticky (a .c) (field (a .s .now) (a .size)) (c .match .keys2)
+returns c = rw (c .enum-told .given .1)
 
 whole-requires : tie.Need-whole-requires
 whole-requires c κs = search needs
@@ -33,4 +36,4 @@ unfolding field
 returns-3 c = goes _ _ _ _ (c .before .before .before .c .given .1) (rw (sym (c .before .whole .ensures) ∙ c .if1 .left))
 
 pub field-spec : {M : Type 1} → statement M
-field-spec = tie.close (tie.spec enum-known-c returns whole-requires add-t6 returns-2 returns-3)
+field-spec = tie.close (tie.spec enum-known-c enum-told returns whole-requires add-t6 returns-2 returns-3)

@@ -6,15 +6,18 @@ use borrow.Author.Needs.{needs}
 use borrow.Author.Tests.{le-leb, lt-leb}
 use lib.ListN.{length}
 use Rattle.lua51_deserializer.specs.Chunk.{limited}
-use Rattle.lua51_deserializer.proofs.Cursor.{sticky, goes, within}
+use Rattle.lua51_deserializer.proofs.Cursor.{goes, within}
 use Rattle.lua51_deserializer.proofs.fields.limited.Statement.{statement}
 use Rattle.lua51_deserializer.proofs.fields.limited.Tie as tie
 
 enum-known-c : tie.Need-enum-known-c
 enum-known-c c = search needs
 
+enum-told : tie.Need-enum-told
+enum-told c = search needs
+
 returns : tie.Need-returns
-returns c = let a = c .before .before .args in sticky (a .c) (limited (a .s .now) (a .size) (a .limit) (a .value)) (c .match .keys2)
+returns c = rw (c .enum-told .given .1)
 
 whole-requires : tie.Need-whole-requires
 whole-requires c κs = search needs
@@ -25,8 +28,8 @@ returns-2 c =
     goes _ _ _ _ (c .before .before .before .before .c .given .1)
     (rw (sym (c .before .before .whole .ensures) ∙ c .before .if1 .taken, lt-leb _ _ (c .if2 .taken)))
 
-add-t9 : tie.Need-add-t9
-add-t9 c =
+add-t10 : tie.Need-add-t10
+add-t10 c =
     let d = c .before .before .before .before in
     let a = d .before .before .before .args in
     omega (arith, within _ (d .c .given .0 .0 + a .size) (length (a .s .now)) (c .before .before .whole .ensures) (c .before .if1 .taken))
@@ -44,4 +47,4 @@ returns-4 c =
 
 pub limited-spec : {M : Type 1} → statement M
 limited-spec =
-    tie.close (tie.spec enum-known-c returns whole-requires returns-2 add-t9 returns-3 returns-4)
+    tie.close (tie.spec enum-known-c enum-told returns whole-requires returns-2 add-t10 returns-3 returns-4)

@@ -3,15 +3,18 @@ use mathlib.Core.Path.{sym, _∙_}
 use borrow.Author.Needs.{needs}
 use borrow.Author.Tests.{eq-eqb, ne-eqb}
 use Rattle.lua51_deserializer.specs.Chunk.{present}
-use Rattle.lua51_deserializer.proofs.Cursor.{sticky, goes}
+use Rattle.lua51_deserializer.proofs.Cursor.{goes}
 use Rattle.lua51_deserializer.proofs.fields.present.Statement.{statement}
 use Rattle.lua51_deserializer.proofs.fields.present.Tie as tie
 
 enum-known-c : tie.Need-enum-known-c
 enum-known-c c = search needs
 
+enum-told : tie.Need-enum-told
+enum-told c = search needs
+
 returns : tie.Need-returns
-returns c = let a = c .before .before .args in sticky (a .c) (present (a .s .now)) (c .match .keys2)
+returns c = rw (c .enum-told .given .1)
 
 whole-requires : tie.Need-whole-requires
 whole-requires c κs = search needs
@@ -45,6 +48,7 @@ present-spec =
     tie.close
     (tie.spec
     enum-known-c
+    enum-told
     returns
     whole-requires
     int-at-requires

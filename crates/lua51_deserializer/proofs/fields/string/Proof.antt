@@ -2,15 +2,18 @@
 use mathlib.Core.Path.{_∙_}
 use borrow.Author.Needs.{needs}
 use Rattle.lua51_deserializer.specs.Chunk.{string}
-use Rattle.lua51_deserializer.proofs.Cursor.{sticky, goes}
+use Rattle.lua51_deserializer.proofs.Cursor.{goes}
 use Rattle.lua51_deserializer.proofs.fields.string.Statement.{statement}
 use Rattle.lua51_deserializer.proofs.fields.string.Tie as tie
 
 enum-known-c : tie.Need-enum-known-c
 enum-known-c c = search needs
 
+enum-told : tie.Need-enum-told
+enum-told c = search needs
+
 returns : tie.Need-returns
-returns c = let a = c .before .before .args in sticky (a .c) (string (a .s .now)) (c .match .keys2)
+returns c = rw (c .enum-told .given .1)
 
 count-to-requires : tie.Need-count-to-requires
 count-to-requires c κs = search needs
@@ -35,6 +38,7 @@ string-spec =
     tie.close
     (tie.spec
     enum-known-c
+    enum-told
     returns
     count-to-requires
     int-at-requires

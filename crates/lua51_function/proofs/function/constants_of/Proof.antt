@@ -3,9 +3,10 @@ use mathlib.Core.Path.{_≡_, _∙_, ap}
 use Prim.Native.Nat.{_+_, _*_}
 use native.Mathlib.Omega.{arith}
 use borrow.Author.Needs.{needs}
-use Rattle.lua51_deserializer.specs.Chunk.{intAt, wordsOf}
-use Rattle.lua51_deserializer.specs.Constant.{within}
-use Rattle.lua51_deserializer.proofs.Ends.{int-within}
+use Rattle.lua51_value.specs.Bytes.{intAt}
+use Rattle.lua51_deserializer.specs.Chunk.{wordsOf}
+use Rattle.lua51_value.specs.Constant.{within}
+use Rattle.lua51_value.proofs.Ends.{int-within}
 use Rattle.lua51_function.proofs.Buffers.{within-after}
 use Rattle.lua51_function.proofs.function.constants_of.Statement.{statement}
 use Rattle.lua51_function.proofs.function.constants_of.Tie as tie

@@ -8,19 +8,19 @@ use lib.ListN.{length, getD, drop}
 use Rattle.lua51_function.specs.Function.{heldCount, heldOf, numberIn, upvaluesIn}
 use Rattle.lua51_deserializer.specs.Chunk.{Place, nowhere, nestedIn, bytesOf}
 use Rattle.lua51_function.proofs.Buffers.{Filling, filling-none, filling-as, filling-more, filling-length, filled-full, filled-all, held-at, held-length, nested-start, nested-found, nested-none}
-use Rattle.lua51_deserializer.proofs.Ends.{byte-within}
+use Rattle.lua51_value.proofs.Ends.{byte-within}
 use Rattle.lua51_function.proofs.function.fill_nested.Statement.{statement}
 use Rattle.lua51_function.proofs.function.fill_nested.Tie as tie
 
 abbrev Inv-loop : tie.InvT-loop
-Inv-loop s me numbers₀ captured₀ functions count room n₀ k₀ numbers captured n k =
+Inv-loop s me numbers₀ nups₀ functions count room n₀ k₀ numbers nups n k =
     let ps = heldOf functions in
     (0 < k) × (k < length ps → getD ps k nowhere .parent ≡ me)
     × Filling n (nestedIn numberIn me 0 ps) (nestedIn numberIn me k (drop k ps)) numbers₀ numbers
-    × Filling n (nestedIn (upvaluesIn s) me 0 ps) (nestedIn (upvaluesIn s) me k (drop k ps)) captured₀ captured
+    × Filling n (nestedIn (upvaluesIn s) me 0 ps) (nestedIn (upvaluesIn s) me k (drop k ps)) nups₀ nups
 
 abbrev μ-loop : tie.MeasureT-loop
-μ-loop s me numbers₀ captured₀ functions count room n₀ k₀ numbers captured n k = count - k
+μ-loop s me numbers₀ nups₀ functions count room n₀ k₀ numbers nups n k = count - k
 
 held-requires : tie.Need-held-requires Inv-loop μ-loop
 held-requires c κs = search needs
@@ -74,8 +74,8 @@ bytes-of-requires c κs = search needs
 byte-at-requires : tie.Need-byte-at-requires Inv-loop μ-loop
 byte-at-requires c κs = search needs
 
-slice-write-captured : tie.Need-slice-write-captured Inv-loop μ-loop
-slice-write-captured c = omega (arith, filling-length (c .before .before .before .before .before .loop .inv .3))
+slice-write-nups : tie.Need-slice-write-nups Inv-loop μ-loop
+slice-write-nups c = omega (arith, filling-length (c .before .before .before .before .before .loop .inv .3))
 
 add-n : tie.Need-add-n Inv-loop μ-loop
 add-n c = search needs
@@ -146,7 +146,7 @@ fill-nested-spec =
     cast-bytes-of
     bytes-of-requires
     byte-at-requires
-    slice-write-captured
+    slice-write-nups
     add-n
     add-next-nested
     next-nested-requires-2

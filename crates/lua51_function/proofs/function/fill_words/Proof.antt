@@ -7,8 +7,9 @@ use native.Mathlib.Omega.{arith}
 use borrow.Author.Needs.{needs}
 use lib.ListN.{length, getD, drop}
 use lib.Seq.{drop-cons}
-use Rattle.lua51_deserializer.specs.Chunk.{intAt, ints, wordsOf}
-use Rattle.lua51_deserializer.proofs.Ends.{int-within}
+use Rattle.lua51_value.specs.Bytes.{intAt}
+use Rattle.lua51_deserializer.specs.Chunk.{ints, wordsOf}
+use Rattle.lua51_value.proofs.Ends.{int-within}
 use Rattle.lua51_function.proofs.Buffers.{Filling, filling-none, filling-length, filling-as, filling-more, filled-count, ints-length, word-at}
 use Rattle.lua51_function.proofs.function.fill_words.Statement.{statement}
 use Rattle.lua51_function.proofs.function.fill_words.Tie as tie

@@ -67,7 +67,7 @@ returns c =
       words = loads-words s ps (a .f) e _ (words .fill-words .ensures);
       kinds = loads-kinds s ps (a .f) _ _ places (kinds .fill-kinds .ensures);
       nested = nested .fill-nested .ensures .0;
-      captured = nested .fill-nested .ensures .1;
+      nups = nested .fill-nested .ensures .1;
     }
 
 pub function-at-spec : {M : Type 1} → statement M

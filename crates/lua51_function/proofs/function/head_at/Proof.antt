@@ -3,10 +3,11 @@ use mathlib.Core.Path.{_≡_, _∙_, sym}
 use Prim.Native.Nat.{_+_}
 use borrow.Author.Needs.{needs}
 use lib.ListN.{getD, length}
-use Rattle.lua51_deserializer.specs.Chunk.{_then_, byteAt, intAt, ints, offset, lines, locals, nowhere, bytesOf, protoAt}
-use Rattle.lua51_deserializer.specs.Constant.{within}
+use Rattle.lua51_deserializer.specs.Chunk.{_then_, ints, offset, lines, locals, nowhere, bytesOf, protoAt}
+use Rattle.lua51_value.specs.Bytes.{byteAt, intAt}
+use Rattle.lua51_value.specs.Constant.{within}
 use Rattle.lua51_function.specs.Function.{heldOf}
-use Rattle.lua51_deserializer.proofs.Ends.{byte-within}
+use Rattle.lua51_value.proofs.Ends.{byte-within}
 use Rattle.lua51_function.proofs.Buffers.{byte-after, ints-length}
 use Rattle.lua51_function.proofs.function.head_at.Statement.{statement}
 use Rattle.lua51_function.proofs.function.head_at.Tie as tie

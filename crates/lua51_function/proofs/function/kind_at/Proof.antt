@@ -1,7 +1,7 @@
 -- `function::kind_at`: the three kinds that are told, and the rest. Assumes nothing.
 use borrow.Author.Needs.{needs}
 use borrow.Author.Tests.{ne-eqb}
-use Rattle.lua51_deserializer.specs.Chunk.{kindOf, valueAt}
+use Rattle.lua51_value.specs.Value.{kindOf, valueAt}
 use Rattle.lua51_function.proofs.function.kind_at.Statement.{statement}
 use Rattle.lua51_function.proofs.function.kind_at.Tie as tie
 

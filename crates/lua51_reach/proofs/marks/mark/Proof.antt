@@ -1,6 +1,4 @@
--- `marks::mark`: a word inside the marks is marked. Assumes nothing.
-use mathlib.Core.Path.{sym}
-use lib.Seq.{set-out}
+-- `marks::mark`: a word that is led to is marked. Assumes nothing.
 use borrow.Author.Needs.{needs}
 use Rattle.lua51_reach.proofs.Marking.{marks-none}
 use Rattle.lua51_reach.proofs.marks.mark.Statement.{statement}
@@ -10,20 +8,19 @@ enum-known-reach : tie.Need-enum-known-reach
 enum-known-reach c = search needs
 
 returns : tie.Need-returns
-returns c = marks-none (c .before .args .reach) (c .before .args .marks .now) (c .match .keys2)
+returns c = marks-none (c .before .before .args .reach) (c .before .before .args .marks .now) (c .match .keys2)
 
-slice-write-marks : tie.Need-slice-write-marks
-slice-write-marks c = search needs
+put-mark-requires : tie.Need-put-mark-requires
+put-mark-requires c κs = search needs
 
 same-length : tie.Need-same-length
 same-length c = search needs
 
 returns-2 : tie.Need-returns-2
-returns-2 c = rw (c .before .before .reach .given .1)
-
-returns-3 : tie.Need-returns-3
-returns-3 c = rw (c .before .before .reach .given .1) (sym (set-out _ _ _ (c .if1 .left)))
+returns-2 c =
+    let put = c .before .before in
+    rw (put .before .before .before .reach .given .1) (put .put-mark .ensures)
 
 pub mark-spec : {M : Type 1} → statement M
 mark-spec =
-    tie.close (tie.spec enum-known-reach returns slice-write-marks same-length returns-2 returns-3)
+    tie.close (tie.spec enum-known-reach returns put-mark-requires same-length returns-2)

@@ -1,34 +1,36 @@
 -- `marks::mark_reached`: a word is marked where one of the words so far leads to it. Assumes nothing.
 use Prim.Native.Nat.{ℕ, _-_, _<_, _≤_}
 use native.Mathlib.Omega.{arith}
-use mathlib.Core.Bool.{true, cond}
 use mathlib.Core.Path.{_≡_, refl, ap, _∙_}
 use lib.Dec.{ltb}
 use lib.ListN.{length, getD}
 use borrow.Author.Needs.{needs}
-use Rattle.lua51_deserializer.specs.Proto.{Proto, size, flowAt}
-use Rattle.lua51_deserializer.specs.Range.{sum}
-use Rattle.lua51_lifter.specs.Check.{landsInside, reached}
-use Rattle.lua51_reach.specs.Targets.{reachOf}
-use Rattle.lua51_reach.proofs.Marking.{marked-length, soFar, reached-more}
+use Rattle.lua51_instruction.specs.Proto.{Proto, size}
+use Rattle.basics.proofs.Tables.{table-at, tabled}
+use Rattle.cfg.specs.Arrays.{bit}
+use Rattle.lua51_reach.specs.Targets.{reachOf, reachedMark}
+use Rattle.lua51_reach.proofs.Marking.{soFar, reached-none, reached-more, reached-all}
 use Rattle.lua51_reach.proofs.marks.mark_reached.Statement.{statement}
 use Rattle.lua51_reach.proofs.marks.mark_reached.Tie as tie
 
 abbrev Inv-loop : tie.InvT-loop
 Inv-loop words marks₀ i₀ marks i =
-    (i ≤ length words) × (length marks ≡ length marks₀) × ((p : Proto) → p .words ≡ words →
-    ((k : ℕ) → k < size p → landsInside p k (flowAt p k) ≡ true) → (j : ℕ) → j < length marks →
-    getD marks j 0 ≡ cond (ltb 0 (soFar p j i)) 1 0)
+    (i ≤ length words) × (length marks ≡ length marks₀) × ((p : Proto) → p .words ≡ words → (j : ℕ) → j < length marks → getD marks j 0 ≡ bit (ltb 0 (soFar p j i)))
 
 abbrev μ-loop : tie.MeasureT-loop
 μ-loop words marks₀ i₀ marks i = length words - i
 
-clear-requires : tie.Need-clear-requires Inv-loop μ-loop
-clear-requires c κs = search needs
+clear-bytes-requires : tie.Need-clear-bytes-requires Inv-loop μ-loop
+clear-bytes-requires c κs = search needs
 
 loop-holds : tie.Need-loop-holds Inv-loop μ-loop
-unfolding sum
-loop-holds c = (omega arith, refl, λ p e h j l. c .before .before .clear .ensures j)
+loop-holds c =
+    let k = c .before .before in
+    let n = length (k .before .before .before .before .args .marks .now) in (
+      omega arith,
+      refl,
+      λ p e j l. rw (k .clear-bytes .ensures) (table-at (λ _. 0) n j (omega (arith, k .clear-bytes .kept .0)) ∙ reached-none p j),
+    )
 
 mul-decode : tie.Need-mul-decode Inv-loop μ-loop
 mul-decode c = search needs
@@ -57,25 +59,24 @@ loop-again c =
     let r = m .before in
     let d = r .before .before .before in
     let t = d .before .before in
-    let l = t .before .loop in
-    let same : length (m .mark .last .0) ≡ length (l .marks) = ap length (m .mark .ensures) ∙ marked-length (r .reach-of .result) (l .marks) in (
+    let l = t .before .loop in (
       omega arith,
-      same ∙ l .inv .1,
-      λ p e h j g.
-          rw (m .mark .ensures) (reached-more p (l .i) (r .reach-of .result)
-          (r .reach-of .ensures p e (cc) ∙ ap (reachOf p (l .i)) (cc)) (h (l .i) (rw e (t .loop-test .taken)))
-          (l .marks) j (omega arith) (l .inv .2 p e h j (omega arith))),
+      m .mark .kept .0 ∙ l .inv .1,
+      λ p e j g.
+          let inside : j < length (l .marks) = omega (arith, m .mark .kept .0) in
+          rw (m .mark .ensures) (reached-more p j (l .i) (r .reach-of .result) (r .reach-of .ensures p e ∙ ap (reachOf p (l .i)) (cc)) (l .marks) inside (l .inv .2 p e j inside)),
     )
 
 same-length : tie.Need-same-length Inv-loop μ-loop
 same-length c = search needs
 
 returns : tie.Need-returns Inv-loop μ-loop
-unfolding reached
-returns c = λ p e h j g.
+returns c =
     let l = c .before .loop in
+    let a = c .before .before .before .before .before .before .before .before .args in
+    λ p e. tabled (reachedMark p) (l .marks) (length (a .marks .now)) (same-length c) (λ j lt.
     let n : l .i ≡ size p = omega (arith, ap length e) in
-    rw n at (l .inv .2 p e h j (omega arith))
+    rw n at (l .inv .2 p e j lt) ∙ reached-all p j)
 
 pub mark-reached-spec : {M : Type 1} → statement M
 mark-reached-spec =
@@ -83,7 +84,7 @@ mark-reached-spec =
     (tie.spec
     Inv-loop
     μ-loop
-    clear-requires
+    clear-bytes-requires
     loop-holds
     mul-decode
     shared-slice-read-decode

@@ -1,7 +1,7 @@
 -- `reach::lands_inside`: a target or skip that is not outside. Assumes nothing.
 use mathlib.Core.Path.{sym, _∙_, ap}
 use borrow.Author.Needs.{needs}
-use Rattle.lua51_deserializer.specs.Instruction.{flowMeant}
+use Rattle.lua51_instruction.specs.Instruction.{flowMeant}
 use Rattle.lua51_reach.proofs.Reaching.{inside, lands-by}
 use Rattle.lua51_reach.proofs.reach.lands_inside.Statement.{statement}
 use Rattle.lua51_reach.proofs.reach.lands_inside.Tie as tie
@@ -20,15 +20,15 @@ enum-told-3 c = search needs
 
 returns : tie.Need-returns
 returns c = let r = c .before .before in let a = r .before .before .args in
-    λ p e h. ap inside (sym (c .enum-told .given .1) ∙ r .reach-of .ensures p e h) ∙ sym (lands-by p (a .i) (flowMeant (a .flow)))
+    λ p e. ap inside (sym (c .enum-told .given .1) ∙ r .reach-of .ensures p e) ∙ sym (lands-by p (a .i) (flowMeant (a .flow)))
 
 returns-2 : tie.Need-returns-2
 returns-2 c = let r = c .before .before in let a = r .before .before .args in
-    λ p e h. ap inside (sym (c .enum-told2 .given .1) ∙ r .reach-of .ensures p e h) ∙ sym (lands-by p (a .i) (flowMeant (a .flow)))
+    λ p e. ap inside (sym (c .enum-told2 .given .1) ∙ r .reach-of .ensures p e) ∙ sym (lands-by p (a .i) (flowMeant (a .flow)))
 
 returns-3 : tie.Need-returns-3
 returns-3 c = let r = c .before .before in let a = r .before .before .args in
-    λ p e h. ap inside (sym (c .enum-told3 .given .1) ∙ r .reach-of .ensures p e h) ∙ sym (lands-by p (a .i) (flowMeant (a .flow)))
+    λ p e. ap inside (sym (c .enum-told3 .given .1) ∙ r .reach-of .ensures p e) ∙ sym (lands-by p (a .i) (flowMeant (a .flow)))
 
 pub lands-inside-spec : {M : Type 1} → statement M
 lands-inside-spec =

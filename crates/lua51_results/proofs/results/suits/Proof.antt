@@ -18,7 +18,9 @@ a-of-requires-2 c κs = search needs
 
 returns : tie.Need-returns
 unfolding matches
-returns c = λ p i e f. cc
+returns c =
+    let n = c .before .before in
+    λ p i e f. rw (e, f, ← n .before .opcode-of .ensures, ← n .opcode-of2 .ensures, ← c .before .a-of .ensures, ← c .a-of2 .ensures)
 
 pub suits-spec : {M : Type 1} → statement M
 suits-spec =

@@ -1,10 +1,11 @@
 -- `results::captures_missing`: a CLOSURE and the words behind it. Assumes nothing.
 use mathlib.Core.Bool.{true, false}
-use mathlib.Core.Path.{_≡_, refl}
+use mathlib.Core.Path.{_≡_}
 use borrow.Author.Needs.{needs}
 use borrow.Author.Tests.{ne-eqb, eq-eqb}
-use Rattle.lua51_deserializer.specs.Proto.{is}
-use Rattle.lua51_deserializer.specs.Word.{CLOSURE}
+use Rattle.lua51_instruction.specs.Proto.{is}
+use Rattle.lua51_instruction.specs.Word.{CLOSURE}
+use Rattle.lua51_results.proofs.Capturing.{captures-are}
 use Rattle.lua51_uses.proofs.results.captures_missing.Statement.{statement}
 use Rattle.lua51_uses.proofs.results.captures_missing.Tie as tie
 
@@ -44,7 +45,7 @@ returns-2 c = let b = c .before in
     let s = o .before .before .before .before .before in
     let a = s .args in
     λ p e g m l. let z : is p (a .i) CLOSURE ≡ true = cc (eq-eqb (o .opcode-of .result) 36 (n .if1 .left)) in
-    rw z (cc (c .captures-follow .ensures p (a .i) e m l refl (rw e (s .pre))))
+    rw z (cc (captures-are p (a .leaders .now) m l (a .words .now) e (b .byte-at .result) (a .i) (rw e (s .pre))))
 
 pub captures-missing-spec : {M : Type 1} → statement M
 captures-missing-spec =

@@ -1,12 +1,13 @@
 -- `results::results_missing`: the word and the one before it. Assumes nothing.
-use Prim.Native.Nat.{_-_, _≤_, _<_}
+use Prim.Native.Nat.{_-_, _≤_}
 use native.Mathlib.Omega.{arith}
-use mathlib.Core.Path.{_∙_}
+use mathlib.Core.Path.{_∙_, sym, ap}
 use borrow.Author.Needs.{needs}
-use Rattle.lua51_deserializer.specs.Proto.{size}
+use Rattle.lua51_instruction.specs.Word.{fieldA}
+use Rattle.lua51_instruction.specs.Proto.{size}
 use Rattle.cfg.specs.Graph.{leader}
 use Rattle.lua51_reach.proofs.Marking.{mark-says}
-use Rattle.lua51_uses.proofs.Using.{first-missing, later-missing}
+use Rattle.lua51_uses.proofs.Using.{word-read, first-missing, later-missing}
 use Rattle.lua51_uses.proofs.results.results_missing.Statement.{statement}
 use Rattle.lua51_uses.proofs.results.results_missing.Tie as tie
 
@@ -19,7 +20,7 @@ takes-requires c κs = search needs
 returns : tie.Need-returns
 returns c = let w = c .before .before in
     let a = w .before .before .before .args in
-    λ p e m. c .takes .ensures p (a .i) (cc) ∙ first-missing p (a .i) (c .before .if1 .taken)
+    λ p e m. c .takes .ensures p (a .i) (word-read p _ _ _ e (w .word-at .ensures)) ∙ first-missing p (a .i) (c .before .if1 .taken)
 
 sub-word-at : tie.Need-sub-word-at
 sub-word-at c = search needs
@@ -47,13 +48,19 @@ cast-result c = search needs
 
 returns-2 : tie.Need-returns-2
 returns-2 c = let f = c .before in
-    let o = f .before .before in
+    let m = f .before in
+    let o = m .before in
     let t = o .before in
-    let w = t .before .before .before in
+    let b = t .before in
+    let w = b .before .before in
     let a = w .before .before .before .args in
-    λ p e m. let h : a .i ≤ size p = rw e (omega (arith, w .before .before .before .pre)) in
-    let l : 0 < a .i = omega (arith, t .before .before .if1 .left) in
-    cc (o .opens .ensures p (a .i - 1) (cc), t .takes2 .ensures p (a .i) (cc), f .first-slot .ensures p (a .i) (cc), mark-says (leader p) (size p) (a .leaders .now) m (a .i) h, later-missing p (a .i) l)
+    λ p e l.
+    let h : a .i ≤ size p = rw e (omega (arith, w .before .before .before .pre)) in
+    let here = word-read p _ (a .i) _ e (w .word-at .ensures) in
+    let there = word-read p _ (a .i - 1) _ e (b .word-at2 .ensures) in
+    later-missing p (a .i) (omega (arith, b .before .if1 .left)) (t .takes2 .ensures p (a .i) here) (o .opens .ensures p (a .i - 1) there)
+    (m .marked .ensures ∙ mark-says (leader p) (size p) (a .leaders .now) l (a .i) h) (f .first-slot .ensures p (a .i) here)
+    (c .a-of .ensures ∙ ap fieldA (sym there))
 
 pub results-missing-spec : {M : Type 1} → statement M
 results-missing-spec =

@@ -1,18 +1,12 @@
 -- `uses::use_verdict`: the first fault that is found is the definition's. Assumes nothing.
-use Prim.Native.Nat.{_+_, _≤_}
 use native.Mathlib.Omega.{arith}
-use mathlib.Core.Path.{ap}
-use lib.ListN.{length}
 use borrow.Author.Needs.{needs}
-use Rattle.lua51_deserializer.specs.Proto.{size}
-use Rattle.lua51_lifter.specs.Check.{reached}
-use Rattle.lua51_reach.proofs.Marking.{mark-says}
-use Rattle.lua51_uses.proofs.Using.{use-beyond, results-wrong, captures-wrong, shared-wrong, use-right, last-leads}
+use Rattle.lua51_uses.proofs.Using.{use-beyond, either-results, shared-word, results-wrong, captures-wrong, shared-wrong, use-right, last-leads}
 use Rattle.lua51_uses.proofs.uses.use_verdict.Statement.{statement}
 use Rattle.lua51_uses.proofs.uses.use_verdict.Tie as tie
 
 returns : tie.Need-returns
-returns c = λ p s. use-beyond p (c .before .before .before .before .before .args .i) (rw (s .words) (c .if1 .taken))
+returns c = (λ p s. use-beyond p (c .before .before .before .before .before .args .i) (rw (s .words) (c .if1 .taken)), tt)
 
 results-unused-requires : tie.Need-results-unused-requires
 results-unused-requires c κs = search needs
@@ -23,7 +17,7 @@ results-missing-requires c κs = search needs
 returns-2 : tie.Need-returns-2
 returns-2 c = let m = c .before in
     let a = m .before .before .before .before .before .before .before .args in
-    λ p s. results-wrong p (a .i) (cc (m .results-missing .ensures p (s .words) (s .leaders), m .before .results-unused .ensures p (s .words) (s .leaders))) (c .if2 .taken)
+    (λ p s. results-wrong p (a .i) (either-results (m .before .results-unused .ensures p (s .words) (s .leaders)) (m .results-missing .ensures p (s .words) (s .leaders))) (c .if2 .taken), (omega arith, omega arith, omega arith))
 
 captures-missing-requires : tie.Need-captures-missing-requires
 captures-missing-requires c κs = search needs
@@ -31,9 +25,11 @@ captures-missing-requires c κs = search needs
 returns-3 : tie.Need-returns-3
 returns-3 c = let k = c .before in
     let m = k .before .before in
-    let a = m .before .before .before .before .before .before .before .args in
-    λ p s. captures-wrong p (a .i) (cc (m .results-missing .ensures p (s .words) (s .leaders), m .before .results-unused .ensures p (s .words) (s .leaders))) (k .before .if2 .left)
-    (k .captures-missing .ensures p (s .words) (s .captured) (s .leaders) (last-leads p (s .last))) (c .if3 .taken)
+    let a = m .before .before .before .before .before .before .before .args in (
+      λ p s. captures-wrong p (a .i) (either-results (m .before .results-unused .ensures p (s .words) (s .leaders)) (m .results-missing .ensures p (s .words) (s .leaders))) (k .before .if2 .left)
+          (k .captures-missing .ensures p (s .words) (s .nups) (s .leaders) (last-leads p (s .last))) (c .if3 .taken),
+      (omega arith, omega arith, omega arith),
+    )
 
 word-at-requires : tie.Need-word-at-requires
 word-at-requires c κs = search needs
@@ -48,26 +44,30 @@ marked-requires : tie.Need-marked-requires
 marked-requires c κs = search needs
 
 returns-4 : tie.Need-returns-4
-returns-4 c = let e = c .before .before .before .before in
+returns-4 c = let v = c .before in
+    let e = v .before .before .before in
     let k = e .before in
     let m = k .before .before in
     let o = m .before .before in
-    let a = o .before .before .before .before .before .args in
-    λ p s. let h : a .i + 1 ≤ size p = omega (arith, ap length (s .words), o .if1 .left) in
-    shared-wrong p (a .i) (cc (m .results-missing .ensures p (s .words) (s .leaders), m .before .results-unused .ensures p (s .words) (s .leaders))) (k .before .if2 .left)
-    (k .captures-missing .ensures p (s .words) (s .captured) (s .leaders) (last-leads p (s .last))) (e .if3 .left)
-    (c .if4 .taken) (cc (mark-says (reached p) (size p) (a .targets .now) (s .targets) (a .i + 1) h))
+    let a = o .before .before .before .before .before .args in (
+      λ p s. shared-wrong p (a .i) (either-results (m .before .results-unused .ensures p (s .words) (s .leaders)) (m .results-missing .ensures p (s .words) (s .leaders))) (k .before .if2 .left)
+          (k .captures-missing .ensures p (s .words) (s .nups) (s .leaders) (last-leads p (s .last))) (e .if3 .left)
+          (c .if4 .taken) (shared-word p s (a .i) _ _ (o .if1 .left) (v .before .before .word-at .ensures) (v .before .opcode-of .ensures) (v .marked .ensures)),
+      (omega arith, omega arith, omega arith),
+    )
 
 returns-5 : tie.Need-returns-5
-returns-5 c = let e = c .before .before .before .before in
+returns-5 c = let v = c .before in
+    let e = v .before .before .before in
     let k = e .before in
     let m = k .before .before in
     let o = m .before .before in
-    let a = o .before .before .before .before .before .args in
-    λ p s. let h : a .i + 1 ≤ size p = omega (arith, ap length (s .words), o .if1 .left) in
-    use-right p (a .i) (cc (m .results-missing .ensures p (s .words) (s .leaders), m .before .results-unused .ensures p (s .words) (s .leaders))) (k .before .if2 .left)
-    (k .captures-missing .ensures p (s .words) (s .captured) (s .leaders) (last-leads p (s .last))) (e .if3 .left)
-    (c .if4 .left) (cc (mark-says (reached p) (size p) (a .targets .now) (s .targets) (a .i + 1) h))
+    let a = o .before .before .before .before .before .args in (
+      λ p s. use-right p (a .i) (either-results (m .before .results-unused .ensures p (s .words) (s .leaders)) (m .results-missing .ensures p (s .words) (s .leaders))) (k .before .if2 .left)
+          (k .captures-missing .ensures p (s .words) (s .nups) (s .leaders) (last-leads p (s .last))) (e .if3 .left)
+          (c .if4 .left) (shared-word p s (a .i) _ _ (o .if1 .left) (v .before .before .word-at .ensures) (v .before .opcode-of .ensures) (v .marked .ensures)),
+      tt,
+    )
 
 pub use-verdict-spec : {M : Type 1} → statement M
 use-verdict-spec =

@@ -2,8 +2,7 @@
 use mathlib.Core.Path.{_∙_}
 use borrow.Author.Needs.{needs}
 use borrow.Author.Tests.{not-true, not-false}
-use Rattle.judging.proofs.Refusals.{refused-by-tag}
-use Rattle.reading.proofs.Delivering.{not-opened, input-refused, no-function, judge-given, next-written, delivers}
+use Rattle.reading.proofs.Delivering.{not-opened, input-refused, no-function, judge-refuses, judge-given, next-written, delivers}
 use Rattle.reading.proofs.deliver.deliver.Statement.{statement}
 use Rattle.reading.proofs.deliver.deliver.Tie as tie
 
@@ -22,12 +21,8 @@ enum-known-answer c = search needs
 refused-requires-2 : tie.Need-refused-requires-2
 refused-requires-2 c κs = search needs
 
-returns-2 : tie.Need-returns-2
-returns-2 c =
-    let k = c .before .before in
-    let refused = refused-by-tag (k .walk-and-judge .result .answer) (c .before .match .keys2) in
-    delivers _ _ _ _
-    (c .refused2 .ensures _ ∙ input-refused _ _ _ _ (not-false _ (k .before .if1 .left)) (k .walk-and-judge .ensures .0) refused)
+enum-known-answer-2 : tie.Need-enum-known-answer-2
+enum-known-answer-2 c = search needs
 
 cast-if2 : tie.Need-cast-if2
 cast-if2 c = search needs
@@ -35,11 +30,11 @@ cast-if2 c = search needs
 refused-requires-3 : tie.Need-refused-requires-3
 refused-requires-3 c κs = search needs
 
-returns-3 : tie.Need-returns-3
-returns-3 c =
+returns-2 : tie.Need-returns-2
+returns-2 c =
     let g = c .before .before .before .before in
     let k = g .before .before in
-    let j = judge-given _ _ _ (k .walk-and-judge .ensures .0) (g .answer .given .1) in
+    let j = judge-given _ _ _ (k .walk-and-judge .ensures .0) (g .answer2 .given .1) in
     delivers _ _ _ _
     (c .refused3 .ensures _ ∙ no-function _ _ _ _ (not-false _ (k .before .if1 .left)) j (c .before .if2 .taken))
 
@@ -48,11 +43,18 @@ write-next-requires c κs =
     let g = c .before .before .before .before in
     let k = g .before .before in
     record {
-      count = g .answer .given .0 .0;
-      judged = judge-given _ _ _ (k .walk-and-judge .ensures .0) (g .answer .given .1);
+      count = g .answer2 .given .0 .0;
+      judged = judge-given _ _ _ (k .walk-and-judge .ensures .0) (g .answer2 .given .1);
       places = k .walk-and-judge .ensures .1;
       below = c .before .if2 .left;
     }
+
+returns-3 : tie.Need-returns-3
+returns-3 c =
+    let g = c .before .before in
+    let k = g .before .before in
+    delivers _ _ _ _
+    (c .refused2 .ensures _ ∙ input-refused _ _ _ (g .answer .given .0 .0) (not-false _ (k .before .if1 .left)) (judge-refuses _ _ _ (k .walk-and-judge .ensures .0) (g .answer .given .1)))
 
 same-length : tie.Need-same-length
 same-length c = search needs
@@ -62,7 +64,7 @@ returns-4 c =
     let w = c .before .before in
     let g = w .before .before .before .before .before in
     let k = g .before .before in
-    let j = judge-given _ _ _ (k .walk-and-judge .ensures .0) (g .answer .given .1) in
+    let j = judge-given _ _ _ (k .walk-and-judge .ensures .0) (g .answer2 .given .1) in
     delivers _ _ _ _
     (w .write-next .ensures ∙ next-written _ _ _ _ (not-false _ (k .before .if1 .left)) j (w .before .before .if2 .left))
 
@@ -75,10 +77,11 @@ deliver-spec =
     walk-and-judge-requires
     enum-known-answer
     refused-requires-2
-    returns-2
+    enum-known-answer-2
     cast-if2
     refused-requires-3
-    returns-3
+    returns-2
     write-next-requires
+    returns-3
     same-length
     returns-4)

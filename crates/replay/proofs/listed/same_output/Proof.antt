@@ -14,14 +14,17 @@ abbrev μ-loop : tie.MeasureT-loop
 open-requires : tie.Need-open-requires Inv-loop μ-loop
 open-requires c κs = search needs
 
-enum-told : tie.Need-enum-told Inv-loop μ-loop
-enum-told c = search needs
+enum-known-answer : tie.Need-enum-known-answer Inv-loop μ-loop
+enum-known-answer c = search needs
 
 ends-with-requires : tie.Need-ends-with-requires Inv-loop μ-loop
 ends-with-requires c κs = search needs
 
 returns : tie.Need-returns Inv-loop μ-loop
 returns c = search needs
+
+enum-told : tie.Need-enum-told Inv-loop μ-loop
+enum-told c = search needs
 
 loop-holds : tie.Need-loop-holds Inv-loop μ-loop
 loop-holds c = search needs
@@ -40,6 +43,9 @@ ends-with-requires-2 c κs = search needs
 
 returns-2 : tie.Need-returns-2 Inv-loop μ-loop
 returns-2 c = search needs
+
+enum-known-delivery-2 : tie.Need-enum-known-delivery-2 Inv-loop μ-loop
+enum-known-delivery-2 c = search needs
 
 slice-aggregate-matched : tie.Need-slice-aggregate-matched Inv-loop μ-loop
 slice-aggregate-matched c = search needs
@@ -66,15 +72,17 @@ same-output-spec =
     Inv-loop
     μ-loop
     open-requires
-    enum-told
+    enum-known-answer
     ends-with-requires
     returns
+    enum-told
     loop-holds
     slice-aggregate-deliver
     deliver-requires
     enum-known-delivery
     ends-with-requires-2
     returns-2
+    enum-known-delivery-2
     slice-aggregate-matched
     matched-requires
     sub-left

@@ -1,0 +1,3 @@
+pub mod Leads
+pub mod Fronts
+pub mod Parts

@@ -1,2 +1,0 @@
-pub mod Lifted
-pub mod Constants

@@ -1,0 +1,4 @@
+pub mod Arms
+pub mod Leaves
+pub mod Assigned
+pub mod Captured

@@ -1,0 +1,122 @@
+-- `put_statements` meets its contract. The loop's invariant: to print all statements from the start is to print those that are left
+-- from here. Assumes nothing.
+use Prim.Native.Nat.{ℕ, _-_, _≤_, _<_}
+use native.Mathlib.Omega.{arith}
+use lib.Seq.{length-take-le}
+use mathlib.Core.Path.{_≡_, refl, _∙_, sym}
+use mathlib.Core.List.{List, [], flatMap}
+use lib.ListN.{length, drop}
+use Rattle.lines.specs.Out.{output, puts}
+use Rattle.lua51_instruction.specs.Proto.{Proto}
+use Rattle.lua51_function.specs.Function.{Stands}
+use Rattle.ast.specs.Statement.{close}
+use Rattle.ast.proofs.Adds.{run-within, run-held}
+use Rattle.lua51_statements.specs.Lines.{ownStatements, lineWithin}
+use Rattle.lua51_runs.specs.Runs.{runAt}
+use Rattle.lua51_statements.proofs.Pieces.{pieces-turn, pieces-done}
+use Rattle.lua51_statements.proofs.Standing.{standing, stands}
+use borrow.Author.Needs.{needs}
+use Rattle.lua51_statements.proofs.printing.put_statements.Statement.{statement}
+use Rattle.lua51_statements.proofs.printing.put_statements.Tie as tie
+
+abbrev Inv-loop : tie.InvT-loop
+Inv-loop out₀ at run₀ head words nested nups i count next₀ k₀ out run next k =
+    (length out ≡ length out₀) × (length run ≡ length run₀) × (k ≤ count)
+    × ((p : Proto) (ks : List ℕ) → Stands p head words ks nested nups
+    → puts (output out₀ at) (flatMap (lineWithin (length run₀)) (ownStatements p i))
+    ≡ puts (output out next) (flatMap (lineWithin (length run₀)) (drop k (ownStatements p i))))
+
+abbrev μ-loop : tie.MeasureT-loop
+μ-loop out₀ at run₀ head words nested nups i count next₀ k₀ out run next k = count - k
+
+word-at-requires : tie.Need-word-at-requires Inv-loop μ-loop
+word-at-requires c κs = search needs
+
+statement-count-requires : tie.Need-statement-count-requires Inv-loop μ-loop
+statement-count-requires c κs = search needs
+
+loop-holds : tie.Need-loop-holds Inv-loop μ-loop
+loop-holds c = (search needs, search needs, search needs, λ p ks st. refl)
+
+statement-requires : tie.Need-statement-requires Inv-loop μ-loop
+statement-requires c κs = search needs
+
+slice-reshare-prefix-put-line : tie.Need-slice-reshare-prefix-put-line Inv-loop μ-loop
+slice-reshare-prefix-put-line c =
+    let w = c .before .before .before in
+    let l = w .before .before .before in
+    let s = l .before in
+    let a = l .before .before .before .before .before .before .before .before .args in
+    let p = standing (a .head) (a .words .now) [] (a .nested .now) (a .nups .now) in
+    let st = stands (a .head) (a .words .now) [] (a .nested .now) (a .nups .now) in
+    let many = s .statement-count .ensures p (a .i) (rw (st .words) (sym (s .before .word-at .ensures))) in
+    let has : l .loop .k < length (ownStatements p (a .i)) = rw (← many) (w .before .before .loop-test .taken) in
+    let wrote = w .statement .ensures p (st .words) (st .nested) (st .nups) (st .stack) has in
+    omega (arith, run-within (l .loop .run) (runAt (ownStatements p (a .i)) (l .loop .k)) wrote)
+
+slice-aggregate-put-line : tie.Need-slice-aggregate-put-line Inv-loop μ-loop
+slice-aggregate-put-line c = sym (length-take-le _ _ (slice-reshare-prefix-put-line (c .before)))
+
+put-line-requires : tie.Need-put-line-requires Inv-loop μ-loop
+put-line-requires c κs = search needs
+
+add-k : tie.Need-add-k Inv-loop μ-loop
+add-k c = search needs
+
+loop-less : tie.Need-loop-less Inv-loop μ-loop
+loop-less c = search needs
+
+loop-again : tie.Need-loop-again Inv-loop μ-loop
+unfolding lineWithin
+loop-again c =
+    let print = c .before .before in
+    let w = print .before .before .before .before .before in
+    let l = w .before .before .before in
+    let s = l .before in
+    let a = l .before .before .before .before .before .before .before .before .args in (
+      search needs,
+      search needs,
+      search needs,
+      λ p ks st.
+          let many = s .statement-count .ensures p (a .i) (rw (st .words) (sym (s .before .word-at .ensures))) in
+          let has : l .loop .k < length (ownStatements p (a .i)) = rw (← many) (w .before .before .loop-test .taken) in
+          let wrote = w .statement .ensures p (st .words) (st .nested) (st .nups) (st .stack) has in
+          let held = run-held (l .loop .run) (runAt (ownStatements p (a .i)) (l .loop .k)) wrote in
+          let turn = pieces-turn (lineWithin (length (a .run .now))) (close []) (output (l .loop .out) (l .loop .next)) (ownStatements p (a .i)) (l .loop .k) has in
+          rw (print .put-line .ensures, held, l .loop .inv .1) (l .loop .inv .3 p ks st ∙ turn),
+    )
+
+same-length : tie.Need-same-length Inv-loop μ-loop
+same-length c = search needs
+
+same-length-2 : tie.Need-same-length-2 Inv-loop μ-loop
+same-length-2 c = search needs
+
+returns : tie.Need-returns Inv-loop μ-loop
+returns c p ks st =
+    let l = c .before in
+    let s = l .before in
+    let a = l .before .before .before .before .before .before .before .before .args in
+    let many = s .statement-count .ensures p (a .i) (rw (st .words) (sym (s .before .word-at .ensures))) in
+    let all : length (ownStatements p (a .i)) ≤ l .loop .k = rw (← many) (c .loop-test .left) in
+    sym (l .loop .inv .3 p ks st ∙ pieces-done (lineWithin (length (a .run .now))) (output (l .loop .out) (l .loop .next)) (ownStatements p (a .i)) (l .loop .k) all)
+
+pub put-statements-spec : {M : Type 1} → statement M
+put-statements-spec =
+    tie.close
+    (tie.spec
+    Inv-loop
+    μ-loop
+    word-at-requires
+    statement-count-requires
+    loop-holds
+    statement-requires
+    slice-reshare-prefix-put-line
+    slice-aggregate-put-line
+    put-line-requires
+    add-k
+    loop-less
+    loop-again
+    same-length
+    same-length-2
+    returns)
