@@ -21,7 +21,7 @@ use Rattle.lua51_instruction.specs.declared.instruction.Flow.{Flow}
 use Rattle.lua51_instruction.specs.declared.instruction.Flow.the-variants.{Straight, Skip, Jump, Test, TestSet}
 use Rattle.lua51_instruction.specs.declared.instruction.Flow.the-variants.{LoopEntry, NumericLoop, GenericLoop}
 use Rattle.lua51_instruction.specs.declared.instruction.Flow.the-variants.{Exit}
-use Rattle.lua51_instruction.specs.declared.instruction.Entry.{Entry}
+use Rattle.lua51_instruction.specs.declared.instruction.RowNumbers.{RowNumbers}
 use Rattle.lua51_instruction.specs.declared.instruction.Row.{Row}
 use Rattle.lua51_instruction.specs.declared.instruction.Instruction.{Instruction}
 
@@ -110,7 +110,7 @@ flowNumber generic-loop = 7
 flowNumber exit = 8
 
 -- a row of the table in numbers
-abbrev pub inNumbers : word.Row → Entry
+abbrev pub inNumbers : word.Row → RowNumbers
 inNumbers r = (kindNumber (r .a), kindNumber (r .b), kindNumber (r .c), flowNumber (r .flow))
 
 -- r stands for a row

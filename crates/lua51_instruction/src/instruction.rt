@@ -303,62 +303,62 @@ fn flow_of(number: u8) -> Flow
 }
 
 // A row of the table in numbers: the kinds of A, B and C, and the flow.
-struct Entry(u8, u8, u8, u8);
+struct RowNumbers(u8, u8, u8, u8);
 
 // How many opcodes there are.
 pub const OPCODES: usize = 38;
 
 // The table of the opcodes 0 to 37, in the order of lopcodes.h.
-const ROWS: [Entry; OPCODES] = [
-    Entry(REGISTER, REGISTER, UNUSED, STRAIGHT), // MOVE
-    Entry(REGISTER, CONSTANT, UNUSED, STRAIGHT), // LOADK
-    Entry(REGISTER, FLAG, FLAG, SKIP), // LOADBOOL
-    Entry(REGISTER, LAST_FROM_A, UNUSED, STRAIGHT), // LOADNIL
-    Entry(REGISTER, UPVALUE, UNUSED, STRAIGHT), // GETUPVAL
-    Entry(REGISTER, GLOBAL, UNUSED, STRAIGHT), // GETGLOBAL
-    Entry(REGISTER, REGISTER, EITHER, STRAIGHT), // GETTABLE
-    Entry(REGISTER, GLOBAL, UNUSED, STRAIGHT), // SETGLOBAL
-    Entry(REGISTER, UPVALUE, UNUSED, STRAIGHT), // SETUPVAL
-    Entry(REGISTER, EITHER, EITHER, STRAIGHT), // SETTABLE
-    Entry(REGISTER, UNUSED, UNUSED, STRAIGHT), // NEWTABLE
-    Entry(PAIR, REGISTER, EITHER, STRAIGHT), // SELF
-    Entry(REGISTER, EITHER, EITHER, STRAIGHT), // ADD
-    Entry(REGISTER, EITHER, EITHER, STRAIGHT), // SUB
-    Entry(REGISTER, EITHER, EITHER, STRAIGHT), // MUL
-    Entry(REGISTER, EITHER, EITHER, STRAIGHT), // DIV
-    Entry(REGISTER, EITHER, EITHER, STRAIGHT), // MOD
-    Entry(REGISTER, EITHER, EITHER, STRAIGHT), // POW
-    Entry(REGISTER, REGISTER, UNUSED, STRAIGHT), // UNM
-    Entry(REGISTER, REGISTER, UNUSED, STRAIGHT), // NOT
-    Entry(REGISTER, REGISTER, UNUSED, STRAIGHT), // LEN
-    Entry(REGISTER, REGISTER, LAST_FROM_B, STRAIGHT), // CONCAT
-    Entry(UNUSED, OFFSET, UNUSED, JUMP), // JMP
-    Entry(FLAG, EITHER, EITHER, TEST), // EQ
-    Entry(FLAG, EITHER, EITHER, TEST), // LT
-    Entry(FLAG, EITHER, EITHER, TEST), // LE
-    Entry(REGISTER, UNUSED, FLAG, TEST), // TEST
-    Entry(REGISTER, REGISTER, FLAG, TEST_SET), // TESTSET
-    Entry(REGISTER, ARGUMENTS, VALUES, STRAIGHT), // CALL
-    Entry(REGISTER, ARGUMENTS, UNUSED, STRAIGHT), // TAILCALL
-    Entry(REGISTER, VALUES, UNUSED, EXIT), // RETURN
-    Entry(QUARTET, OFFSET, UNUSED, NUMERIC_LOOP), // FORLOOP
-    Entry(QUARTET, OFFSET, UNUSED, LOOP_ENTRY), // FORPREP
-    Entry(REGISTER, UNUSED, VARIABLES, GENERIC_LOOP), // TFORLOOP
-    Entry(REGISTER, ELEMENTS, BLOCK_NUMBER, STRAIGHT), // SETLIST
-    Entry(REGISTER, UNUSED, UNUSED, STRAIGHT), // CLOSE
-    Entry(REGISTER, NESTED, UNUSED, STRAIGHT), // CLOSURE
-    Entry(REGISTER, VARARGS, UNUSED, STRAIGHT), // VARARG
+const ROWS: [RowNumbers; OPCODES] = [
+    RowNumbers(REGISTER, REGISTER, UNUSED, STRAIGHT), // MOVE
+    RowNumbers(REGISTER, CONSTANT, UNUSED, STRAIGHT), // LOADK
+    RowNumbers(REGISTER, FLAG, FLAG, SKIP), // LOADBOOL
+    RowNumbers(REGISTER, LAST_FROM_A, UNUSED, STRAIGHT), // LOADNIL
+    RowNumbers(REGISTER, UPVALUE, UNUSED, STRAIGHT), // GETUPVAL
+    RowNumbers(REGISTER, GLOBAL, UNUSED, STRAIGHT), // GETGLOBAL
+    RowNumbers(REGISTER, REGISTER, EITHER, STRAIGHT), // GETTABLE
+    RowNumbers(REGISTER, GLOBAL, UNUSED, STRAIGHT), // SETGLOBAL
+    RowNumbers(REGISTER, UPVALUE, UNUSED, STRAIGHT), // SETUPVAL
+    RowNumbers(REGISTER, EITHER, EITHER, STRAIGHT), // SETTABLE
+    RowNumbers(REGISTER, UNUSED, UNUSED, STRAIGHT), // NEWTABLE
+    RowNumbers(PAIR, REGISTER, EITHER, STRAIGHT), // SELF
+    RowNumbers(REGISTER, EITHER, EITHER, STRAIGHT), // ADD
+    RowNumbers(REGISTER, EITHER, EITHER, STRAIGHT), // SUB
+    RowNumbers(REGISTER, EITHER, EITHER, STRAIGHT), // MUL
+    RowNumbers(REGISTER, EITHER, EITHER, STRAIGHT), // DIV
+    RowNumbers(REGISTER, EITHER, EITHER, STRAIGHT), // MOD
+    RowNumbers(REGISTER, EITHER, EITHER, STRAIGHT), // POW
+    RowNumbers(REGISTER, REGISTER, UNUSED, STRAIGHT), // UNM
+    RowNumbers(REGISTER, REGISTER, UNUSED, STRAIGHT), // NOT
+    RowNumbers(REGISTER, REGISTER, UNUSED, STRAIGHT), // LEN
+    RowNumbers(REGISTER, REGISTER, LAST_FROM_B, STRAIGHT), // CONCAT
+    RowNumbers(UNUSED, OFFSET, UNUSED, JUMP), // JMP
+    RowNumbers(FLAG, EITHER, EITHER, TEST), // EQ
+    RowNumbers(FLAG, EITHER, EITHER, TEST), // LT
+    RowNumbers(FLAG, EITHER, EITHER, TEST), // LE
+    RowNumbers(REGISTER, UNUSED, FLAG, TEST), // TEST
+    RowNumbers(REGISTER, REGISTER, FLAG, TEST_SET), // TESTSET
+    RowNumbers(REGISTER, ARGUMENTS, VALUES, STRAIGHT), // CALL
+    RowNumbers(REGISTER, ARGUMENTS, UNUSED, STRAIGHT), // TAILCALL
+    RowNumbers(REGISTER, VALUES, UNUSED, EXIT), // RETURN
+    RowNumbers(QUARTET, OFFSET, UNUSED, NUMERIC_LOOP), // FORLOOP
+    RowNumbers(QUARTET, OFFSET, UNUSED, LOOP_ENTRY), // FORPREP
+    RowNumbers(REGISTER, UNUSED, VARIABLES, GENERIC_LOOP), // TFORLOOP
+    RowNumbers(REGISTER, ELEMENTS, BLOCK_NUMBER, STRAIGHT), // SETLIST
+    RowNumbers(REGISTER, UNUSED, UNUSED, STRAIGHT), // CLOSE
+    RowNumbers(REGISTER, NESTED, UNUSED, STRAIGHT), // CLOSURE
+    RowNumbers(REGISTER, VARARGS, UNUSED, STRAIGHT), // VARARG
 ];
 
 // The row of an opcode in numbers. An opcode above 37 uses no operand and goes straight on.
-fn entry_of(opcode: u8) -> Entry
+fn row_numbers_of(opcode: u8) -> RowNumbers
     ensures { λ r. ⌜ r ≡ inNumbers (rowOf opcode) ⌝ }
 {
     let i = opcode as usize;
     if i < OPCODES {
         return ROWS[i];
     }
-    Entry(UNUSED, UNUSED, UNUSED, STRAIGHT)
+    RowNumbers(UNUSED, UNUSED, UNUSED, STRAIGHT)
 }
 
 // What the table says of an opcode: the kinds of its operands, and its flow. The kind of Bx or sBx stands under b.
@@ -373,7 +373,7 @@ pub struct Row {
 pub fn row_of(opcode: u8) -> Row
     ensures { λ r. ⌜ Means (rowOf opcode) r ⌝ }
 {
-    let e = entry_of(opcode);
+    let e = row_numbers_of(opcode);
     Row {
         a: kind_of(e.0),
         b: kind_of(e.1),

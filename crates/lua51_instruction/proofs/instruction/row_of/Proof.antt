@@ -5,8 +5,8 @@ use borrow.Author.Needs.{needs}
 use Rattle.lua51_instruction.proofs.instruction.row_of.Statement.{statement}
 use Rattle.lua51_instruction.proofs.instruction.row_of.Tie as tie
 
-entry-of-requires : tie.Need-entry-of-requires
-entry-of-requires c κs = search needs
+row-numbers-of-requires : tie.Need-row-numbers-of-requires
+row-numbers-of-requires c κs = search needs
 
 kind-of-requires : tie.Need-kind-of-requires
 kind-of-requires c κs = search needs
@@ -23,7 +23,7 @@ flow-of-requires c κs = search needs
 returns : tie.Need-returns
 returns c =
     let d = c .before .before .before in
-    let e = d .before .entry-of .ensures in
+    let e = d .before .row-numbers-of .ensures in
     let row = rowOf (d .before .before .args .opcode) in
     record {
       a = rw (d .kind-of .ensures, e) (kind-back (row .a));
@@ -36,7 +36,7 @@ pub row-of-spec : {M : Type 1} → statement M
 row-of-spec =
     tie.close
     (tie.spec
-    entry-of-requires
+    row-numbers-of-requires
     kind-of-requires
     kind-of-requires-2
     kind-of-requires-3
