@@ -9,6 +9,13 @@ pub fn wide(b: u8) -> u32
     b as u32
 }
 
+// A number of 16 bits as an index.
+pub fn index_of(n: u16) -> usize
+    ensures { λ r. ⌜ r ≡ n ⌝ }
+{
+    n as usize
+}
+
 // A number of 32 bits as one of 64.
 pub fn wider(x: u32) -> u64
     ensures { λ r. ⌜ (r ≡ x) × (r < 4294967296) ⌝ }

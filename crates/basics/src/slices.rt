@@ -3,6 +3,7 @@ ghost use mathlib.Core.Path.{_≡_};
 ghost use Prim.Native.Nat.{_+_};
 ghost use lib.ListN.{getD, length};
 ghost use Rattle.basics.specs.Range.{table};
+use crate::numbers::index_of;
 
 // Byte i; 0 past the last.
 pub fn byte_at(bytes: &[u8], i: usize) -> u8
@@ -34,12 +35,12 @@ pub fn word_after(words: &[u32], i: usize) -> u32
     0
 }
 
-// Number i; 0 past the last.
-pub fn number_at(numbers: &[usize], i: usize) -> usize
+// Number i of 16 bits; 0 past the last.
+pub fn short_at(numbers: &[u16], i: usize) -> usize
     ensures { λ r. ⌜ r ≡ getD (now (numbers .entry)) i 0 ⌝ }
 {
     if i < numbers.len() {
-        return numbers[i];
+        return index_of(numbers[i]);
     }
     0
 }
@@ -55,8 +56,8 @@ pub fn clear_bytes(bytes: &mut [u8])
     }
 }
 
-// Sets every number to 0.
-pub fn clear_numbers(numbers: &mut [usize])
+// Sets every number of 16 bits to 0.
+pub fn clear_shorts(numbers: &mut [u16])
     ensures { λ _. ⌜ now (numbers .exit) ≡ table (λ _. 0) (length (now (numbers .entry))) ⌝ }
 {
     let mut i = 0;

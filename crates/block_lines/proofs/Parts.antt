@@ -6,14 +6,14 @@ use mathlib.Core.List.{List, [], _∷_, _++_, flatMap}
 use mathlib.Core.Path.{_≡_, refl, _∙_, sym}
 use lib.Dec.{eqb}
 use borrow.Author.Tests.{eqb-true, eqb-false}
-use Rattle.lines.specs.Line.{line, letter-B, letter-S, letter-E}
+use Rattle.lines.specs.Line.{line, letter-B, letter-E}
 use Rattle.lines.specs.Out.{Out, puts}
 use Rattle.lines.proofs.Puts.{puts-append}
 use Rattle.basics.specs.Range.{over, only}
 use Rattle.basics.proofs.Tests.{either-way}
 use Rattle.lua51_instruction.specs.Proto.{Proto, size}
 use Rattle.lua51_function.specs.declared.function.Head.{Head}
-use Rattle.ast.specs.Statement.{run, count, exprs, expr, nil, set-register}
+use Rattle.ast.specs.Statement.{nil, set-register}
 use Rattle.cfg.specs.Graph.{past, plain-edge, blockOf, thenOf, betweenOf, diverted}
 use Rattle.cfg.proofs.Leaders.{past-found, past-end}
 use Rattle.cfg_notes.specs.Notes.{frontNote, notesOf}
@@ -84,11 +84,6 @@ code-printed p j number end room room′ o o₁ o₂ o₃ o₄ n e first front b
 plain-line : (to : ℕ) → flatMap edgeLine (only (plain-edge to)) ≡ line letter-E (0 ∷ to ∷ [])
 unfolding edgeLine
 plain-line to = pieces-one edgeLine (plain-edge to)
-
--- R(r) gets nil
-pub nil-line : (r : ℕ) → flatMap statementLine (only (set-register r nil)) ≡ line letter-S (1 ∷ 1 ∷ 1 ∷ 1 ∷ r ∷ 3 ∷ [])
-unfolding statementLine run count exprs expr
-nil-line r = pieces-one statementLine (set-register r nil)
 
 -- the entry
 pub entry-printed : (p : Proto) (number n parameters stack : ℕ) (o o₁ o₂ o₃ : Out)

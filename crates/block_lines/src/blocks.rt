@@ -1,5 +1,5 @@
 // The lines of one block: of a code block, of the entry, of a between block.
-ghost use Prim.Native.Nat.{_+_, _-_, _≤_, _<_};
+ghost use Prim.Native.Nat.{_≤_, _<_};
 ghost use mathlib.Core.Bool.{true};
 ghost use mathlib.Core.List.{[], _∷_, flatMap};
 ghost use mathlib.Core.Path.{_≡_};
@@ -7,19 +7,15 @@ ghost use lib.ListN.{length};
 ghost use Rattle.lines.specs.Line.{line, letter-B};
 ghost use Rattle.lines.specs.Out.{output, puts, Prints};
 ghost use Rattle.lua51_instruction.specs.Proto.{Proto, size};
-ghost use Rattle.basics.specs.Range.{over, only};
-ghost use Rattle.ast.specs.Statement.{nil, set-register};
 ghost use Rattle.cfg.specs.Graph.{leader, blockOf};
 ghost use Rattle.cfg_notes.specs.Notes.{notesOf};
 ghost use Rattle.lua51_lifter.specs.Blocks.{front, codeBlock, entryBlock};
-ghost use Rattle.lua51_lifter.specs.Listing.{statementLine, blockLine};
+ghost use Rattle.lua51_lifter.specs.Listing.{blockLine};
 ghost use Rattle.lua51_statements.specs.Lines.{lineWithin};
 ghost use Rattle.block_lines.specs.Lines.{run-numbers, Checked, Held, betweenLines};
 use crate::edges::put_edge_line;
 use crate::edges::put_exits;
-use ast::ASSIGN;
-use ast::NIL;
-use ast::REGISTER;
+use basics::numbers::minus;
 use cfg::betweens::then_of;
 use cfg::edges::PLAIN;
 use cfg_notes::notes::between_at;
@@ -27,11 +23,10 @@ use cfg_notes::notes::block_at;
 use cfg_notes::notes::front_at;
 use cfg_notes::notes::range_end;
 use lines::LETTER_B;
-use lines::LETTER_S;
-use lines::put_line;
 use lines::put_wide_line;
 use lua51_function::function::Head;
 use lua51_lister::put_body;
+use lua51_statements::printing::put_nils;
 use lua51_statements::printing::put_on_then;
 
 // The kinds of blocks.
@@ -61,7 +56,7 @@ fn put_front(
     at: usize,
     run: &mut [u32],
     words: &[u32],
-    notes: &[usize],
+    notes: &[u16],
     t: usize,
 ) -> usize
     ensures { λ r. ⌜ ((p : Proto) → Checked p (now (words .entry)) (now (notes .entry)) → t ≤ size p
@@ -84,7 +79,7 @@ pub fn put_code_block(
     words: &[u32],
     nested: &[u32],
     nups: &[u8],
-    notes: &[usize],
+    notes: &[u16],
     j: usize,
 ) -> usize
     ensures { λ r. ⌜ ((p : Proto) → Held p head (now (words .entry)) (now (nested .entry)) (now (nups .entry)) → run-numbers ≤ length (now (run .entry)) → now (notes .entry) ≡ notesOf p → j ≤ size p → leader p j ≡ true
@@ -98,32 +93,15 @@ pub fn put_code_block(
     put_exits(out, body.at, words, notes, j, end)
 }
 
-// Prints 'R(r) gets nil' for each register from the parameter count to below the stack's end.
-fn put_nils(out: &mut [u8], at: usize, head: Head) -> usize
-    ensures { λ r. ⌜ output (now (out .exit)) r ≡ puts (output (now (out .entry)) at) (flatMap statementLine (over (λ r. only (set-register r nil)) (head .parameters) (head .stack - head .parameters))) ⌝ }
-{
-    let mut next = at;
-    let mut r = head.parameters;
-    while r < head.stack {
-        next = put_line(
-            out,
-            next,
-            LETTER_S,
-            &[ASSIGN, 1, 1, REGISTER, r as u32, NIL],
-        );
-        r += 1;
-    }
-    next
-}
-
-// Prints the entry block of a function of n words.
+// Prints the entry block of a function of n words: its registers behind the parameters get nil.
 pub fn put_entry(out: &mut [u8], at: usize, head: Head, number: usize, n: usize) -> usize
     ensures { λ r. ⌜ ((p : Proto) → p .parameters ≡ head .parameters → p .stack ≡ head .stack → n ≡ size p
         → output (now (out .exit)) r ≡ puts (output (now (out .entry)) at) (blockLine number (entryBlock p))) ⌝ }
     ensures anyway { λ r. ⌜ Prints (output (now (out .entry)) at) (output (now (out .exit)) r) ⌝ }
 {
     let first = put_block_line(out, at, number, n, n, ENTRY);
-    let body = put_nils(out, first, head);
+    let registers = minus(head.stack as u16, head.parameters as u16);
+    let body = put_nils(out, first, head.parameters, registers);
     put_edge_line(out, body, PLAIN, 0)
 }
 
@@ -133,7 +111,7 @@ pub fn put_between(
     at: usize,
     run: &mut [u32],
     words: &[u32],
-    notes: &[usize],
+    notes: &[u16],
     i: usize,
 ) -> usize
     ensures { λ r. ⌜ ((p : Proto) → Checked p (now (words .entry)) (now (notes .entry)) → run-numbers ≤ length (now (run .entry)) → i < size p

@@ -30,7 +30,7 @@ pub fn put_edge_line(out: &mut [u8], at: usize, kind: u8, block: usize) -> usize
 }
 
 // The number of the block that an edge of word i leads to: a loop's Then edge may lead to its between block.
-fn leads_to(notes: &[usize], i: usize, e: Edge) -> usize
+fn leads_to(notes: &[u16], i: usize, e: Edge) -> usize
     ensures { λ r. ⌜ ((p : Proto) → now (notes .entry) ≡ notesOf p → i < size p → e .to ≤ size p → leader p (e .to) ≡ true
         → r ≡ leads p i (edgeMeant e) .to) ⌝ }
 {
@@ -45,7 +45,7 @@ fn leads_to(notes: &[usize], i: usize, e: Edge) -> usize
 }
 
 // Prints the E line of an edge of word i.
-fn put_edge(out: &mut [u8], at: usize, notes: &[usize], i: usize, e: Edge) -> usize
+fn put_edge(out: &mut [u8], at: usize, notes: &[u16], i: usize, e: Edge) -> usize
     ensures { λ r. ⌜ ((p : Proto) → now (notes .entry) ≡ notesOf p → i < size p → e .to ≤ size p → leader p (e .to) ≡ true
         → output (now (out .exit)) r ≡ puts (output (now (out .entry)) at) (edgeLine (leads p i (edgeMeant e)))) ⌝ }
     ensures anyway { λ r. ⌜ Prints (output (now (out .entry)) at) (output (now (out .exit)) r) ⌝ }
@@ -55,7 +55,7 @@ fn put_edge(out: &mut [u8], at: usize, notes: &[usize], i: usize, e: Edge) -> us
 }
 
 // Prints the E lines of the range whose last word is i.
-fn put_edges(out: &mut [u8], at: usize, words: &[u32], notes: &[usize], i: usize) -> usize
+fn put_edges(out: &mut [u8], at: usize, words: &[u32], notes: &[u16], i: usize) -> usize
     ensures { λ r. ⌜ ((p : Proto) → Checked p (now (words .entry)) (now (notes .entry)) → i < size p → leader p (i + 1) ≡ true
         → output (now (out .exit)) r ≡ puts (output (now (out .entry)) at) (flatMap edgeLine (map (leads p i) (leaving p i (flowAt p i))))) ⌝ }
     ensures anyway { λ r. ⌜ Prints (output (now (out .entry)) at) (output (now (out .exit)) r) ⌝ }
@@ -75,7 +75,7 @@ pub fn put_exits(
     out: &mut [u8],
     at: usize,
     words: &[u32],
-    notes: &[usize],
+    notes: &[u16],
     j: usize,
     end: usize,
 ) -> usize

@@ -1,6 +1,6 @@
 -- Loops by their flow, the words of their Then edges, and which of them have a between block, by the counts of entering edges.
 -- Assumes nothing.
-use Prim.Native.Nat.{ℕ, _+_, _<_, _≤_}
+use Prim.Native.Nat.{ℕ, _+_, _<_, _≤_, min}
 use native.Mathlib.Omega.{arith}
 use mathlib.Core.Bool.{Bool, true, false, not, cond, _||_}
 use mathlib.Core.List.{List, [], _∷_}
@@ -8,7 +8,7 @@ use mathlib.Core.Path.{_≡_, refl, sym, ap, _∙_}
 use lib.Dec.{eqb, ltb}
 use denote.Enum.Declared.{tagOf}
 use types.Run.{OneOf, miss}
-use borrow.Author.Tests.{ne-eqb, ltb-true, ltb-false}
+use borrow.Author.Tests.{ne-eqb, eqb-true, eqb-false, ltb-true, ltb-false}
 use Rattle.lua51_instruction.specs.Word.{Flow, straight, skip, jump, test, test-set, loop-entry, numeric-loop, generic-loop, exit}
 use Rattle.lua51_instruction.specs.Word.{numberOf, FORLOOP, TFORLOOP, fieldOpcode, rowOf, row, opOf}
 use Rattle.lua51_instruction.specs.Instruction.{flowMeant}
@@ -21,7 +21,7 @@ use Rattle.lua51_instruction.proofs.Targets.{target-most}
 use Rattle.basics.proofs.Tests.{clash, either-way}
 use Rattle.basics.proofs.Tables.{table-at}
 use Rattle.cfg.specs.Graph.{isLoop, thenOf, entering, diverted}
-use Rattle.cfg.specs.Arrays.{divertedBy, entrances}
+use Rattle.cfg.specs.Arrays.{more, divertedBy, entrances}
 use Rattle.cfg.proofs.Entering.{loop-cases}
 
 -- ------------------------------------------------------------ flows
@@ -134,9 +134,15 @@ module _ (p : Proto) (i : ℕ) where
 
   -- ------------------------------------------------------------ between blocks
 
+  -- one edge is one as it is counted
+  alone : (e : ℕ) → eqb (min e more) 1 ≡ eqb e 1
+  alone e = either-way (eqb e 1)
+      (λ h. rw (eqb-true e 1 h))
+      (λ h. rw h (ne-eqb (min e more) 1 (λ one. eqb-false e 1 h (omega arith))))
+
   -- where the counts are those of the entering edges, they say which loops are diverted
   pub diverted-by : (counts : List ℕ) → counts ≡ entrances p → divertedBy p counts i ≡ diverted p i
   unfolding diverted
   diverted-by counts e = either-way (isLoop p i)
-      (λ loop. rw (loop, e, table-at (entering p) (size p + 1) (thenOf p i) (omega (arith, then-most loop))))
+      (λ loop. rw (loop, e, table-at (λ t. min (entering p t) more) (size p + 1) (thenOf p i) (omega (arith, then-most loop)), alone (entering p (thenOf p i))))
       (λ loop. rw loop)

@@ -1,8 +1,8 @@
 -- The arrays that the code fills from a function's words, and what its values stand for.
-use Prim.Native.Nat.{ℕ, _+_}
+use Prim.Native.Nat.{ℕ, _+_, min}
 use mathlib.Core.Bool.{Bool, not, cond, _&&_}
 use mathlib.Core.List.{List, [], _∷_, map}
-use lib.Dec.{eqb}
+use lib.Dec.{eqb, ltb}
 use lib.ListN.{getD, set}
 use Rattle.basics.specs.Range.{only, sum, times, table}
 use Rattle.lua51_instruction.specs.Proto.{Proto, size, flowAt}
@@ -54,10 +54,18 @@ edgesMeant (edges.Two e f) = edgeMeant e ∷ edgeMeant f ∷ []
 abbrev pub targets : Edges → List ℕ
 targets r = map (λ (e : graph.Edge). e .to) (edgesMeant r)
 
--- an array with 1 more at each of some places
+-- edges are counted as none, one and more
+abbrev pub more : ℕ
+more = 2
+
+-- the count with one edge more
+abbrev pub oneMore : ℕ → ℕ
+oneMore c = cond (ltb c more) (c + 1) c
+
+-- an array with one edge more counted at each of some places
 unfoldable pub entered : List ℕ → List ℕ → List ℕ
 entered [] a = a
-entered (t ∷ ts) a = entered ts (set a t (getD a t 0 + 1))
+entered (t ∷ ts) a = entered ts (set a t (oneMore (getD a t 0)))
 
 -- `exits` and `entering`, where the ranges are those that an array marks
 abbrev pub exitsBy : Proto → List ℕ → ℕ → ℕ → ℕ
@@ -66,9 +74,9 @@ exitsBy p marks t i = cond (eqb (getD marks (i + 1) 0) 1) (times t (map (λ e. e
 abbrev pub enteringBy : Proto → List ℕ → ℕ → ℕ
 enteringBy p marks t = bit (eqb t 0) + sum (exitsBy p marks t) 0 (size p)
 
--- how many edges enter at the words 0 to n
+-- how many edges enter at the words 0 to n: none, one, more
 abbrev pub entrances : Proto → List ℕ
-entrances p = table (entering p) (size p + 1)
+entrances p = table (λ t. min (entering p t) more) (size p + 1)
 
 -- ------------------------------------------------------------ between blocks
 

@@ -9,7 +9,7 @@ ghost use Rattle.cfg.specs.Graph.{isLoop, thenOf};
 ghost use Rattle.cfg.specs.Arrays.{divertedBy};
 use crate::flow::flow_of;
 use crate::flow::landing;
-use basics::slices::number_at;
+use basics::slices::byte_at;
 use basics::slices::word_at;
 use lua51_instruction::instruction::Flow;
 
@@ -40,11 +40,11 @@ pub fn then_of(words: &[u32], i: usize) -> usize
 }
 
 // Whether word i is a loop to whose Then block other than one edge is counted, so that its assignment takes a between block.
-pub fn is_diverted(words: &[u32], counts: &[usize], i: usize) -> bool
+pub fn is_diverted(words: &[u32], counts: &[u8], i: usize) -> bool
     ensures { λ r. ⌜ ((p : Proto) → p .words ≡ now (words .entry) → r ≡ divertedBy p (now (counts .entry)) i) ⌝ }
 {
     if !is_loop(word_at(words, i)) {
         return false;
     }
-    number_at(counts, then_of(words, i)) != 1
+    byte_at(counts, then_of(words, i)) != 1
 }

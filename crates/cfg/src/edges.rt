@@ -1,6 +1,6 @@
 // Edges: where a range leads behind its last word, and how many edges enter each block.
 ghost use mathlib.Core.Path.{_≡_};
-ghost use Prim.Native.Nat.{ℕ, _+_, _<_, _^_};
+ghost use Prim.Native.Nat.{ℕ, _+_, _<_, min};
 ghost use mathlib.Core.Bool.{cond};
 ghost use mathlib.Core.List.{[], _∷_};
 ghost use lib.Dec.{ltb};
@@ -8,11 +8,11 @@ ghost use lib.ListN.{length, getD, set};
 ghost use Rattle.basics.specs.Range.{only, times, table};
 ghost use Rattle.lua51_instruction.specs.Proto.{Proto, size, flowAt};
 ghost use Rattle.cfg.specs.Graph.{plain-edge, then-edge, else-edge, leaving};
-ghost use Rattle.cfg.specs.Arrays.{edgesMeant, targets, entered, exitsBy, enteringBy};
+ghost use Rattle.cfg.specs.Arrays.{edgesMeant, targets, more, oneMore, entered, exitsBy, enteringBy};
 use crate::flow::flow_of;
 use crate::flow::landing;
 use crate::marks::marked;
-use basics::slices::clear_numbers;
+use basics::slices::clear_bytes;
 use lua51_instruction::instruction::Flow;
 use lua51_instruction::instruction::c_of;
 
@@ -22,6 +22,9 @@ pub const PLAIN: u8 = 0;
 pub const THEN: u8 = 1;
 
 pub const ELSE: u8 = 2;
+
+// The count of the edges that enter a block where they are more than one.
+const MORE: u8 = 2;
 
 // An edge: its kind, and the word that it goes to.
 pub struct Edge {
@@ -94,19 +97,21 @@ fn exits_at(words: &[u32], marks: &[u8], i: usize) -> Edges
     Edges::None
 }
 
-// Counts one edge to a word, where it is inside.
-fn enter(counts: &mut [usize], to: usize)
-    requires { ⌜ getD (now counts) to 0 + 1 < 2 ^ 64 ⌝ }
-    ensures { λ _. ⌜ now (counts .exit) ≡ set (now (counts .entry)) to (getD (now (counts .entry)) to 0 + 1) ⌝ }
+// Counts one edge to a word, where it is inside; past the second none is counted.
+fn enter(counts: &mut [u8], to: usize)
+    ensures { λ _. ⌜ now (counts .exit) ≡ set (now (counts .entry)) to (oneMore (getD (now (counts .entry)) to 0)) ⌝ }
 {
-    if to < counts.len() {
-        counts[to] = counts[to] + 1;
+    if counts.len() <= to {
+        return;
+    }
+    let count = counts[to];
+    if count < MORE {
+        counts[to] = count + 1;
     }
 }
 
 // Counts each of some edges at the word that it goes to.
-fn enter_all(counts: &mut [usize], edges: Edges)
-    requires { ⌜ ((t : ℕ) → getD (now counts) t 0 + 2 < 2 ^ 64) ⌝ }
+fn enter_all(counts: &mut [u8], edges: Edges)
     ensures { λ _. ⌜ now (counts .exit) ≡ entered (targets edges) (now (counts .entry)) ⌝ }
 {
     match edges {
@@ -119,11 +124,11 @@ fn enter_all(counts: &mut [usize], edges: Edges)
     }
 }
 
-// Counts at each word the edges that enter the block whose range starts there, the entry's edge among them.
-pub fn count_entering(words: &[u32], marks: &[u8], counts: &mut [usize])
-    ensures { λ _. ⌜ ((p : Proto) → p .words ≡ now (words .entry) → now (counts .exit) ≡ table (enteringBy p (now (marks .entry))) (length (now (counts .entry)))) ⌝ }
+// Counts at each word the edges that enter the block whose range starts there, the entry's edge among them: none, one, more.
+pub fn count_entering(words: &[u32], marks: &[u8], counts: &mut [u8])
+    ensures { λ _. ⌜ ((p : Proto) → p .words ≡ now (words .entry) → now (counts .exit) ≡ table (λ t. min (enteringBy p (now (marks .entry)) t) more) (length (now (counts .entry)))) ⌝ }
 {
-    clear_numbers(counts);
+    clear_bytes(counts);
     enter(counts, 0);
     let mut i = 0;
     while i < words.len() {

@@ -4,18 +4,17 @@ ghost use Rattle.lua51_instruction.specs.Word.{fieldOpcode, rowOf};
 ghost use Rattle.lua51_instruction.specs.Instruction.{flowMeant};
 ghost use Rattle.lua51_instruction.specs.Proto.{Proto, target};
 use basics::slices::word_at;
+use lua51_instruction::instruction;
 use lua51_instruction::instruction::Flow;
 use lua51_instruction::instruction::Target;
 use lua51_instruction::instruction::jump_target;
 use lua51_instruction::instruction::opcode_of;
-use lua51_instruction::instruction::row_of;
 
 // Where control goes behind a word.
 pub fn flow_of(word: u32) -> Flow
     ensures { λ r. ⌜ flowMeant r ≡ rowOf (fieldOpcode word) .flow ⌝ }
 {
-    let row = row_of(opcode_of(word));
-    row.flow
+    instruction::flow_of(opcode_of(word))
 }
 
 // The word that the jump at word i leads to; the word count in place of one outside.

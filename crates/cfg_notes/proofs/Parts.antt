@@ -1,20 +1,36 @@
 -- The parts of the notes, and what they say at a word. Assumes nothing.
-use Prim.Native.Nat.{ℕ, _+_, _-_, _*_, _≤_}
+use Prim.Native.Nat.{ℕ, _+_, _-_, _*_, _≤_, _<_, min}
 use native.Mathlib.Omega.{arith}
 use mathlib.Core.Bool.{true, false}
 use mathlib.Core.List.{List, [], _++_, append-nil, append-assoc}
 use mathlib.Core.Path.{_≡_, _∙_, sym, ap}
-use lib.ListN.{length, getD, take, drop, length-append, length-take, length-drop, drop-of-length-le, List·getD-append}
+use lib.ListN.{length, getD, take, drop, length-append, length-take, length-drop, drop-of-length-le, List·getD-append, List·getD-eq-default}
 use lib.Seq.{getD-take, getD-drop, getD-append-add, take-at, drop-at}
 use Rattle.basics.specs.Range.{table}
 use Rattle.basics.proofs.Tables.{table-at, table-length}
 use Rattle.basics.proofs.Tests.{either-way}
 use Rattle.lua51_instruction.specs.Proto.{Proto, size}
 use Rattle.cfg.specs.Graph.{leader, blockOf, entryOf, diverted, betweenOf}
-use Rattle.cfg.specs.Arrays.{mark, leaders, enteringBy, entrances}
+use Rattle.cfg.specs.Arrays.{mark, leaders, more, enteringBy, entrances}
 use Rattle.cfg.proofs.Counts.{counts-by}
 use Rattle.cfg_notes.specs.Notes.{startNote, betweenNote, frontNote, notesOf, third, startsIn, betweensIn, frontsIn}
 use Rattle.cfg_notes.proofs.Numbering.{block-next}
+
+module _ (ns : List ℕ) where
+  -- number j of each part, and none behind its last
+  pub start-in : (j : ℕ) → j < third ns → getD ns j 0 ≡ getD (startsIn ns) j 0
+  start-in j lt = sym (getD-take (third ns) ns j 0 lt)
+
+  pub between-in : (i : ℕ) → i < third ns → getD ns (third ns + i) 0 ≡ getD (betweensIn ns) i 0
+  between-in i lt = sym (getD-take (third ns) (drop (third ns) ns) i 0 lt ∙ getD-drop (third ns) ns i 0)
+
+  pub front-in : (t : ℕ) → t < third ns → getD ns (third ns + third ns + t) 0 ≡ getD (frontsIn ns) t 0
+  front-in t lt = sym (getD-take (third ns) (drop (third ns + third ns) ns) t 0 lt ∙ getD-drop (third ns + third ns) ns t 0)
+
+  pub none-in : (xs : List ℕ) (j : ℕ) → third ns ≤ j → 0 ≡ getD (take (third ns) xs) j 0
+  none-in xs j le =
+      let short : length (take (third ns) xs) ≤ j = rw (length-take (third ns) xs) (omega arith) in
+      sym (List·getD-eq-default (take (third ns) xs) 0 short)
 
 module _ (p : Proto) where
   abbrev part : (ℕ → ℕ) → List ℕ
@@ -37,15 +53,14 @@ module _ (p : Proto) where
     pub starts-at : (j : ℕ) → j ≤ size p → getD (startsIn ns) j 0 ≡ startNote p j
     unfolding notesOf
     starts-at j le =
-        getD-take (third ns) ns j 0 (omega (arith, third-is))
+        sym (start-in ns j (omega (arith, third-is)))
         ∙ rw e (List·getD-append (part (startNote p)) _ 0 j (omega (arith, part-length (startNote p))) ∙ table-at (startNote p) (size p + 1) j (omega arith))
 
     pub betweens-at : (i : ℕ) → i ≤ size p → getD (betweensIn ns) i 0 ≡ betweenNote p i
     unfolding notesOf
     betweens-at i le =
         let at : third ns + i ≡ length (part (startNote p)) + i = omega (arith, third-is, part-length (startNote p)) in
-        getD-take (third ns) (drop (third ns) ns) i 0 (omega (arith, third-is))
-        ∙ getD-drop (third ns) ns i 0
+        sym (between-in ns i (omega (arith, third-is)))
         ∙ rw (at, e) (getD-append-add (part (startNote p)) _ i 0
         ∙ List·getD-append (part (betweenNote p)) _ 0 i (omega (arith, part-length (betweenNote p)))
         ∙ table-at (betweenNote p) (size p + 1) i (omega arith))
@@ -54,8 +69,7 @@ module _ (p : Proto) where
     unfolding notesOf
     fronts-at t le =
         let at : third ns + third ns + t ≡ length (part (startNote p)) + (length (part (betweenNote p)) + t) = omega (arith, third-is, part-length (startNote p), part-length (betweenNote p)) in
-        getD-take (third ns) (drop (third ns + third ns) ns) t 0 (omega (arith, third-is))
-        ∙ getD-drop (third ns + third ns) ns t 0
+        sym (front-in ns t (omega (arith, third-is)))
         ∙ rw (at, e) (getD-append-add (part (startNote p)) _ (length (part (betweenNote p)) + t) 0
         ∙ getD-append-add (part (betweenNote p)) _ t 0
         ∙ table-at (frontNote p) (size p + 1) t (omega arith))
@@ -95,7 +109,7 @@ module _ (p : Proto) where
   marks-whole a m e h = rw h at e
 
   -- n + 1 counts by its marks are the function's
-  pub counts-whole : (marks a : List ℕ) (m : ℕ) → marks ≡ leaders p → a ≡ table (enteringBy p marks) m → m ≡ size p + 1 → a ≡ entrances p
+  pub counts-whole : (marks a : List ℕ) (m : ℕ) → marks ≡ leaders p → a ≡ table (λ t. min (enteringBy p marks t) more) m → m ≡ size p + 1 → a ≡ entrances p
   counts-whole marks a m leads e h = rw h at (e ∙ counts-by p marks leads m)
 
   -- three parts of m notes are lent one after the other, and each comes back in its place: xs, ys, zs

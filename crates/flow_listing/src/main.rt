@@ -2,8 +2,9 @@
 // number, function, place'.
 mod run; // the pieces of the output
 
-use crate::run::begin;
 use crate::run::put_piece;
+use judging::walk_and_judge;
+use lua51_lister::RUN_NUMBERS;
 
 // One byte more than a chunk may have: the program sees that an input is too long.
 const MOST_INPUT: usize = 65537;
@@ -12,9 +13,9 @@ const STANDARD_INPUT: i32 = 0;
 
 const STANDARD_OUTPUT: i32 = 1;
 
-// Reads an input s, and writes the pieces of its output (`pieces s` in crates/reading/specs/Program.antt) in order: turn k writes
-// the first m bytes of `out`, which by the contract of `put_piece` are piece k, and k counts up from 0. No piece is empty
-// (`pieces-sized` in proofs/Pieces.antt), so where m is 0 none is left (`piece-ended` in proofs/Begun.antt), and the run ends.
+// Reads an input s, judges it, and writes the pieces of its output (`pieces s` in crates/reading/specs/Program.antt) in order: turn k
+// writes the first bytes of `out`, which by the contract of `put_piece` are piece k, and k counts up from 0. The run ends with the
+// piece behind which none is left.
 //
 // What no definition decides, as no contract says what the system does at a call:
 // - What is read. `read_full` stops where the buffer is full, where the input ends and where a read fails, and does not tell the
@@ -26,15 +27,17 @@ fn main() {
     let mut buf = [0u8; MOST_INPUT];
     let n = io::read_full(STANDARD_INPUT, &mut buf);
     let s = &buf[..n];
-    let run = begin(s);
+    let judged = walk_and_judge(s);
     let mut out = io::large_buffer();
+    let mut run = [0u32; RUN_NUMBERS];
     let mut k = 0;
     loop {
-        let m = put_piece(&mut out, s, run, k);
-        if m == 0 {
+        let piece = put_piece(&mut out, s, judged, k, &mut run);
+        let m = piece.length;
+        if !io::write_all(STANDARD_OUTPUT, &out[..m]) {
             return;
         }
-        if !io::write_all(STANDARD_OUTPUT, &out[..m]) {
+        if piece.last {
             return;
         }
         k += 1;

@@ -1,100 +1,84 @@
 // The pieces of the listing program's output: the listings of a chunk's functions, or one line X (document 01, 'Printed lines').
 use judging::Answer;
+use judging::Judged;
 use judging::refusal::Refusal;
 use judging::refusal::numbers_of;
 use judging::refusal::put_refusal;
-use judging::walk_and_judge;
 use listing::function::put_function;
 use lua51_deserializer::chunk::Functions;
 use reading::PROGRAM_BUFFER;
-ghost use Prim.Native.Nat.{_≤_, min};
+ghost use Prim.Native.Nat.{_≤_};
+ghost use mathlib.Core.Bool.{cond, true};
 ghost use mathlib.Core.List.{[]};
 ghost use mathlib.Core.Path.{_≡_};
+ghost use lib.Dec.{ltb};
 ghost use lib.ListN.{length, take, getD};
 ghost use Rattle.io.specs.Counts.{Counts};
-ghost use Rattle.lines.specs.Out.{output, puts, largest-usize};
-ghost use Rattle.lua51_deserializer.specs.Chunk.{walk};
-ghost use Rattle.lua51_deserializer.specs.Walked.{placesOf};
-ghost use Rattle.judging.specs.Judge.{given, judge, listingOf};
+ghost use Rattle.judging.specs.Judge.{listingOf};
+ghost use Rattle.judging.specs.Refusal.{refusalOf, refusalLine};
+ghost use Rattle.block_lines.specs.Lines.{run-numbers};
 ghost use Rattle.reading.specs.Program.{buffer, pieces};
-ghost use Rattle.flow_listing.specs.Run.{Begun, Listable};
+ghost use Rattle.flow_listing.specs.Run.{Listable, lineOf, Reached, After};
 
-// A run over an input: the input's functions, how many of their listings are printed whole, and what ends the run behind them,
-// a refusal or, where all are printed, the count of functions.
-pub struct Run {
-    pub functions: Functions,
-    pub whole: usize,
-    pub end: Answer,
+// A piece that stands at the output's start: its length, and whether the run ends with it.
+pub struct Piece {
+    pub length: usize,
+    pub last: bool,
 }
 
-// How long the listing of function f is: printed into an empty output it is only counted.
-fn listing_length(s: &[u8], functions: Functions, f: u32) -> usize
-    requires { ⌜ Listable (now s) functions f ⌝ }
-    ensures { λ r. ⌜ r ≡ min (length (listingOf (now (s .entry)) f)) largest-usize ⌝ }
-{
-    let mut none = [0u8; 0];
-    put_function(&mut none, 0, s, functions, f)
-}
-
-// The run over an accepted chunk of `count` functions. Each listing is measured once, up to the first that does not fit the buffer.
-fn measure(s: &[u8], functions: Functions, count: usize) -> Run
-    requires { ⌜ (judge (now s) ≡ given count) × (placesOf functions ≡ walk (now s) .places) ⌝ }
-    ensures { λ r. ⌜ Begun (now (s .entry)) r ⌝ }
-{
-    let mut f: u32 = 0;
-    while (f as usize) < count {
-        if PROGRAM_BUFFER < listing_length(s, functions, f) {
-            return Run {
-                functions,
-                whole: f as usize,
-                end: Answer::Refused(Refusal::OutputShort(f)),
-            };
-        }
-        f += 1;
-    }
-    Run {
-        functions,
-        whole: count,
-        end: Answer::Given(count),
-    }
-}
-
-// The run over an input, which is judged once.
-pub fn begin(s: &[u8]) -> Run
-    ensures { λ r. ⌜ Begun (now (s .entry)) r ⌝ }
-{
-    let judged = walk_and_judge(s);
-    let answer = judged.answer;
-    let functions = judged.functions;
-    let Answer::Given(count) = answer else {
-        return Run {
-            functions,
-            whole: 0,
-            end: answer,
-        };
-    };
-    measure(s, functions, count)
-}
-
-// Prints piece k of a run's output, and gives its length: 0 where there is no piece k, as no piece is empty.
-pub fn put_piece(out: &mut [u8], s: &[u8], run: Run, k: usize) -> usize
-    requires { ⌜ Begun (now s) run ⌝ }
+// Prints the X line of a refusal, with which the run ends.
+fn put_last(out: &mut [u8], refusal: Refusal) -> Piece
     requires { ⌜ buffer ≤ length (now out) ⌝ }
-    ensures { λ r. ⌜ output (now (out .exit)) r ≡ puts (output (now (out .entry)) 0) (getD (pieces (now (s .entry))) k []) ⌝ }
-    ensures { λ r. ⌜ take r (now (out .exit)) ≡ getD (pieces (now (s .entry))) k [] ⌝ }
-    ensures { λ r. ⌜ Counts r (now (out .exit)) ⌝ }
+    ensures { λ r. ⌜ take (r .length) (now (out .exit)) ≡ lineOf (refusalOf refusal) ⌝ }
+    ensures { λ r. ⌜ Counts (r .length) (now (out .exit)) ⌝ }
+    ensures { λ r. ⌜ r .last ≡ true ⌝ }
 {
-    let functions = run.functions;
-    let whole = run.whole;
-    let end = run.end;
-    if k < whole {
-        return put_function(out, 0, s, functions, k as u32);
+    Piece {
+        length: put_refusal(out, 0, numbers_of(refusal)),
+        last: true,
     }
-    if whole < k {
-        return 0;
+}
+
+// Prints the listing of function f, or the X line for 33 where it does not fit the buffer.
+fn put_next(out: &mut [u8], s: &[u8], functions: Functions, f: u32, run: &mut [u32]) -> Piece
+    requires { ⌜ Listable (now s) functions f ⌝ }
+    requires { ⌜ buffer ≤ length (now out) ⌝ }
+    requires { ⌜ run-numbers ≤ length (now run) ⌝ }
+    ensures { λ r. ⌜ take (r .length) (now (out .exit)) ≡ cond (ltb buffer (length (listingOf (now (s .entry)) f))) (refusalLine 33 f 0) (listingOf (now (s .entry)) f) ⌝ }
+    ensures { λ r. ⌜ Counts (r .length) (now (out .exit)) ⌝ }
+    ensures { λ r. ⌜ r .last ≡ ltb buffer (length (listingOf (now (s .entry)) f)) ⌝ }
+{
+    let length = put_function(out, s, functions, f, false, run);
+    if PROGRAM_BUFFER < length {
+        return put_last(out, Refusal::OutputShort(f));
     }
-    if let Answer::Refused(refusal) = end {
-        return put_refusal(out, 0, numbers_of(refusal));
+    Piece {
+        length,
+        last: false,
     }
-    0
+}
+
+// Prints piece k of the output for an input that was judged; where there is none, its length is 0 and the run ends. The buffer `run`
+// is lent for its statements.
+pub fn put_piece(out: &mut [u8], s: &[u8], judged: Judged, k: usize, run: &mut [u32]) -> Piece
+    requires { ⌜ Reached (now s) judged k ⌝ }
+    requires { ⌜ buffer ≤ length (now out) ⌝ }
+    requires { ⌜ run-numbers ≤ length (now run) ⌝ }
+    ensures { λ r. ⌜ take (r .length) (now (out .exit)) ≡ getD (pieces (now (s .entry))) k [] ⌝ }
+    ensures { λ r. ⌜ Counts (r .length) (now (out .exit)) ⌝ }
+    ensures { λ r. ⌜ After (now (s .entry)) judged k (r .last) ⌝ }
+{
+    let answer = judged.answer;
+    match answer {
+        Answer::Refused(refusal) => put_last(out, refusal),
+        Answer::Given(count) => {
+            if count <= k {
+                return Piece {
+                    length: 0,
+                    last: true,
+                };
+            }
+            put_next(out, s, judged.functions, k as u32, run)
+        }
+    }
 }

@@ -1,9 +1,10 @@
 -- Laws by which the code judges a chunk: its functions one after the other, and each in the buffers. Assumes nothing.
 use mathlib.Core.Path.{_≡_, refl, sym, _∙_, ap, subst}
 use mathlib.Core.List.{List}
-use Prim.Native.Nat.{ℕ, suc, _+_, _-_, _≤_, _<_}
+use Prim.Native.Nat.{ℕ, suc, _+_, _-_, _*_, _≤_, _<_}
 use native.Mathlib.Omega.{arith}
 use lib.ListN.{length, take}
+use Rattle.lua51_instruction.specs.Proto.{Proto}
 use Rattle.lua51_deserializer.specs.Chunk.{here, Place, Walk, walk, protoAt, most, most-words, most-functions}
 use Rattle.lua51_function.specs.Function.{Stands, heldOf, Loads, Holds}
 use Rattle.lua51_deserializer.specs.Walked.{placesOf, walkOf}
@@ -23,7 +24,7 @@ use Rattle.lua51_lifter.specs.declared.verdict.Verdict.the-variants.{Fine, Refu
 use Rattle.lua51_lifter.specs.declared.verdict.FunctionFault.{FunctionFault}
 use Rattle.judging.specs.Judge.{Answer, given, judged, judgeFrom, judgeRead, judge}
 use Rattle.judging.specs.Refusal.{refusalOf}
-use Rattle.judging.specs.Answers.{Whole, Ready}
+use Rattle.judging.specs.Answers.{Whole, Fits}
 use Rattle.judging.specs.declared.refusal.Refusal.the-variants.{Chunk, Function}
 
 -- ------------------------------------------------------------ a chunk that was read whole
@@ -44,19 +45,20 @@ module _ {s : List ℕ} {functions : Functions} (whole : Whole s functions) wher
   judge-whole = let e : functions .count - 0 ≡ functions .count = omega arith in rw (e, read-whole, count-whole)
 
 -- a function is held whole by buffers with room
-module _ {s : List ℕ} {functions : Functions} {f : ℕ} {r : Loaded} {ws ws′ ks ks′ ns ns′ us us′ ls ts : List ℕ} (ready : Ready s functions f ws ks ns us ls ts)
+module _ {s : List ℕ} {functions : Functions} {f : ℕ} {r : Loaded} {ws ws′ ks ks′ ns ns′ us us′ : List ℕ} {ls ts : ℕ} (whole : Whole s functions)
+    (below : f < functions .count) (fits : Fits (protoAt s (walk s .places) f) (length ws) (length ks) (length ns) (length us) ls ts)
     (loads : Loads s (heldOf functions) f r ws ws′ ks ks′ ns ns′ us us′) where
   pub holds-function : Holds s (walk s .places) f r ws′ ks′ ns′ us′
   holds-function =
-      let end = ready .whole .end in
+      let end = whole .end in
       holds-each s (record { cursor = Here end; functions = functions }) end f r ws ws′ ks ks′ ns ns′ us us′
-      (ready .whole .walk) refl (ready .below) loads (ready .lists)
+      (whole .walk) refl below loads (record { words = fits .words; nested = fits .nested; nups = fits .nups })
 
   -- the kinds of its constants too
   pub stands-function : Stands (protoAt s (walk s .places) f) (r .head) (take (r .words) ws′) (take (r .kinds) ks′) (take (r .nested) ns′) (take (r .nested) us′)
   stands-function =
       let p = protoAt s (walk s .places) f in
-      let kinds : p .kinds ≡ take (r .kinds) ks′ = holds-function .kinds (omega (arith, ready .kinds, filled-length (loads .kinds))) in
+      let kinds : p .kinds ≡ take (r .kinds) ks′ = holds-function .kinds (omega (arith, fits .kinds, filled-length (loads .kinds))) in
       subst (λ (l : List ℕ). Stands p (r .head) (take (r .words) ws′) l (take (r .nested) ns′) (take (r .nested) us′)) kinds (holds-function .stands)
 
 -- ------------------------------------------------------------ the walk over a chunk
@@ -95,13 +97,37 @@ pub functions-passed : (s : List ℕ) (ps : List Place) (n f : ℕ) → n ≤ f 
 unfolding judgeFrom
 functions-passed s ps n f h = let z : n - f ≡ 0 = omega arith in rw z
 
--- ------------------------------------------------------------ the buffers
+-- ------------------------------------------------------------ room
 
--- each buffer is as long as it was made
-pub record Buffers (ws ks ns us ls ts : List ℕ) : Type 0 where
-  pub words : most-words ≡ length ws
-  pub kinds : most ≡ length ks
-  pub nested : most-functions ≡ length ns
-  pub nups : most-functions ≡ length us
-  pub leaders : most-words + 1 ≡ length ls
-  pub targets : most-words + 1 ≡ length ts
+-- buffers of these lengths have room for each function of a chunk that was read whole: for the most words and constants, or for
+-- as many as the chunk has bytes for
+module _ {s : List ℕ} {functions : Functions} (whole : Whole s functions) (f : ℕ) (below : f < functions .count) where
+  inside : f < length (walk s .places)
+  inside = omega (arith, count-whole whole)
+
+  pub fits-long : (ws ks ns us ls ts : ℕ) → most-words ≤ ws → most ≤ ks → most-functions ≤ ns → most-functions ≤ us → most-words < ls → most-words < ts
+      → Fits (protoAt s (walk s .places) f) ws ks ns us ls ts
+  fits-long ws ks ns us ls ts w k n u l t =
+      let h = whole-chunk s (whole .end) (read-whole whole) .limited f inside in
+      record { words = omega arith; kinds = omega arith; nested = n; nups = u; leaders = omega arith; targets = omega arith }
+
+  pub fits-short : (ws ks ns us ls ts : ℕ) → length s ≤ 4 * ws → length s ≤ ks → most-functions ≤ ns → most-functions ≤ us → ws < ls → ws < ts
+      → Fits (protoAt s (walk s .places) f) ws ks ns us ls ts
+  fits-short ws ks ns us ls ts w k n u l t =
+      let h = whole-chunk s (whole .end) (read-whole whole) .taken f inside in
+      record { words = omega arith; kinds = omega arith; nested = n; nups = u; leaders = omega arith; targets = omega arith }
+
+-- buffers that are as long as they were
+pub record Kept (ws ks ns us ls ts ws′ ks′ ns′ us′ ls′ ts′ : List ℕ) : Type 0 where
+  pub words : length ws′ ≡ length ws
+  pub kinds : length ks′ ≡ length ks
+  pub nested : length ns′ ≡ length ns
+  pub nups : length us′ ≡ length us
+  pub leaders : length ls′ ≡ length ls
+  pub targets : length ts′ ≡ length ts
+
+-- have room for what they had room for
+pub fits-kept : {p : Proto} {ws ks ns us ls ts ws′ ks′ ns′ us′ ls′ ts′ : List ℕ} → Kept ws ks ns us ls ts ws′ ks′ ns′ us′ ls′ ts′
+    → Fits p (length ws) (length ks) (length ns) (length us) (length ls) (length ts)
+    → Fits p (length ws′) (length ks′) (length ns′) (length us′) (length ls′) (length ts′)
+fits-kept k f = rw (k .words, k .kinds, k .nested, k .nups, k .leaders, k .targets) f

@@ -3,8 +3,8 @@ use Prim.Native.Nat.{ℕ, _≤_, _<_}
 use mathlib.Core.List.{List}
 use mathlib.Core.Path.{_≡_}
 use lib.ListN.{length}
-use Rattle.lua51_deserializer.specs.Chunk.{here, walked, walk, most, most-words}
-use Rattle.lua51_function.specs.Function.{Roomy}
+use Rattle.lua51_instruction.specs.Proto.{Proto}
+use Rattle.lua51_deserializer.specs.Chunk.{here, walked, walk, most-functions}
 use Rattle.lua51_deserializer.specs.Walked.{placesOf}
 use Rattle.lua51_deserializer.specs.declared.chunk.Functions.{Functions}
 use Rattle.judging.specs.Judge as judge
@@ -18,17 +18,21 @@ abbrev pub answerOf : Answer → judge.Answer
 answerOf (Given n) = given n
 answerOf (Refused r) = refusalOf r
 
+-- a chunk of at most so many bytes is judged with less room
+abbrev pub short-chunk : ℕ
+short-chunk = 8192
+
 -- s was read whole, and these are its functions
 pub record Whole (s : List ℕ) (functions : Functions) : Type 0 where
   pub end : ℕ
   pub walk : walked (here end) (placesOf functions) ≡ walk s
 
--- function f of the chunk s can be judged: the chunk was read whole, f is one of its functions, and the buffers have room for
--- each of them and for the marks of its words, with one behind the last
-pub record Ready (s : List ℕ) (functions : Functions) (f : ℕ) (ws ks ns us ls ts : List ℕ) : Type 0 where
-  pub whole : Whole s functions
-  pub below : f < functions .count
-  pub lists : Roomy ws ns us
-  pub kinds : most ≤ length ks
-  pub leaders : most-words < length ls
-  pub targets : most-words < length ts
+-- buffers of these lengths have room for p: for its words, the kinds of its constants, the functions that can be nested in it
+-- and their counts of upvalues, and two marks of each word and behind the last
+pub record Fits (p : Proto) (ws ks ns us ls ts : ℕ) : Type 0 where
+  pub words : length (p .words) ≤ ws
+  pub kinds : length (p .kinds) ≤ ks
+  pub nested : most-functions ≤ ns
+  pub nups : most-functions ≤ us
+  pub leaders : length (p .words) < ls
+  pub targets : length (p .words) < ts

@@ -24,7 +24,7 @@ fn put_range(
     words: &[u32],
     nested: &[u32],
     nups: &[u8],
-    notes: &[usize],
+    notes: &[u16],
     j: usize,
 ) -> usize
     ensures { λ r. ⌜ ((p : Proto) → Held p head (now (words .entry)) (now (nested .entry)) (now (nups .entry)) → run-numbers ≤ length (now (run .entry)) → now (notes .entry) ≡ notesOf p → j ≤ size p
@@ -46,7 +46,7 @@ fn put_code_blocks(
     words: &[u32],
     nested: &[u32],
     nups: &[u8],
-    notes: &[usize],
+    notes: &[u16],
 ) -> usize
     ensures { λ r. ⌜ ((p : Proto) → Held p head (now (words .entry)) (now (nested .entry)) (now (nups .entry)) → run-numbers ≤ length (now (run .entry)) → now (notes .entry) ≡ notesOf p
         → output (now (out .exit)) r ≡ puts (output (now (out .entry)) at) (over (codeLines p) 0 (size p + 1))) ⌝ }
@@ -62,7 +62,7 @@ fn put_code_blocks(
 }
 
 // Prints the between blocks, in the order of their loops.
-fn put_betweens(out: &mut [u8], at: usize, run: &mut [u32], words: &[u32], notes: &[usize]) -> usize
+fn put_betweens(out: &mut [u8], at: usize, run: &mut [u32], words: &[u32], notes: &[u16]) -> usize
     ensures { λ r. ⌜ ((p : Proto) → Checked p (now (words .entry)) (now (notes .entry)) → run-numbers ≤ length (now (run .entry))
         → output (now (out .exit)) r ≡ puts (output (now (out .entry)) at) (over (betweenLines p) 0 (size p))) ⌝ }
     ensures anyway { λ r. ⌜ Prints (output (now (out .entry)) at) (output (now (out .exit)) r) ⌝ }
@@ -86,7 +86,7 @@ pub fn put_blocks(
     words: &[u32],
     nested: &[u32],
     nups: &[u8],
-    notes: &[usize],
+    notes: &[u16],
 ) -> usize
     ensures { λ r. ⌜ ((p : Proto) → Held p head (now (words .entry)) (now (nested .entry)) (now (nups .entry)) → run-numbers ≤ length (now (run .entry)) → now (notes .entry) ≡ notesOf p
         → output (now (out .exit)) r ≡ puts (output (now (out .entry)) at) (blockLines 0 (graph p))) ⌝ }

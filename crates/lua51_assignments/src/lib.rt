@@ -5,7 +5,7 @@ ghost use mathlib.Core.Path.{_≡_};
 ghost use lib.ListN.{length};
 ghost use Rattle.lua51_instruction.specs.Word.{opOf, numberOf, SELF};
 ghost use Rattle.lua51_instruction.specs.Proto.{Proto, word};
-ghost use Rattle.lua51_instruction.specs.Instruction.{Decodes};
+ghost use Rattle.lua51_instruction.specs.Instruction.{FieldsOf};
 ghost use Rattle.ast.specs.Statement.{register, index, one, assign, set-register};
 ghost use Rattle.ast.specs.Statement as ast;
 ghost use Rattle.ast.specs.Buffer.{buffer, adds, Writes};
@@ -21,13 +21,13 @@ use ast::REGISTER;
 use ast::TABLE;
 use ast::UPVALUE;
 use ast::push_all;
-use lua51_instruction::instruction::Instruction;
+use lua51_instruction::instruction::Fields;
 use lua51_instruction::op;
 use lua51_runs::operands::operand;
 use lua51_runs::registers::set_register;
 
 // Writes 'R(A) gets R(B)[RK(C)]'.
-fn get_table(run: &mut [u32], w: Instruction) -> usize
+fn get_table(run: &mut [u32], w: Fields) -> usize
     ensures { λ r. ⌜ buffer (now (run .exit)) r
         ≡ adds (buffer (now (run .entry)) 0) (ast.run (set-register (w .a) (index (register (w .b)) (rk (w .c))))) ⌝ }
 {
@@ -40,7 +40,7 @@ fn get_table(run: &mut [u32], w: Instruction) -> usize
 }
 
 // Writes 'R(A)[RK(B)] gets RK(C)'.
-fn set_table(run: &mut [u32], w: Instruction) -> usize
+fn set_table(run: &mut [u32], w: Fields) -> usize
     ensures { λ r. ⌜ buffer (now (run .exit)) r
         ≡ adds (buffer (now (run .entry)) 0) (ast.run (assign (one (index (register (w .a)) (rk (w .b)))) (one (rk (w .c))))) ⌝ }
 {
@@ -65,8 +65,8 @@ fn set_table(run: &mut [u32], w: Instruction) -> usize
 }
 
 // Writes statement k of SELF: R(A+1) gets R(B), then R(A) gets R(B)[RK(C)].
-fn self_statement(run: &mut [u32], w: Instruction, k: u16) -> usize
-    ensures { λ r. ⌜ ((p : Proto) (i : ℕ) → Decodes (word p i) w → k < 2
+fn self_statement(run: &mut [u32], w: Fields, k: u16) -> usize
+    ensures { λ r. ⌜ ((p : Proto) (i : ℕ) → FieldsOf (word p i) w → k < 2
         → buffer (now (run .exit)) r ≡ adds (buffer (now (run .entry)) 0) (runAt (statementsBy p i SELF) k)) ⌝ }
     ensures anyway { λ r. ⌜ Writes (buffer (now (run .entry)) 0) (buffer (now (run .exit)) r) ⌝ }
 {
@@ -77,8 +77,8 @@ fn self_statement(run: &mut [u32], w: Instruction, k: u16) -> usize
 }
 
 // Writes statement k of an opcode from MOVE to SELF. For any other word it writes some numbers.
-pub fn assignment(run: &mut [u32], w: Instruction, k: u16) -> usize
-    ensures { λ r. ⌜ ((p : Proto) (i : ℕ) → Decodes (word p i) w → w .opcode ≤ numberOf SELF → k < length (statementsBy p i (opOf (w .opcode)))
+pub fn assignment(run: &mut [u32], w: Fields, k: u16) -> usize
+    ensures { λ r. ⌜ ((p : Proto) (i : ℕ) → FieldsOf (word p i) w → w .opcode ≤ numberOf SELF → k < length (statementsBy p i (opOf (w .opcode)))
         → buffer (now (run .exit)) r ≡ adds (buffer (now (run .entry)) 0) (runAt (statementsBy p i (opOf (w .opcode))) k)) ⌝ }
     ensures anyway { λ r. ⌜ Writes (buffer (now (run .entry)) 0) (buffer (now (run .exit)) r) ⌝ }
 {

@@ -15,6 +15,7 @@ use basics::slices::word_after;
 use basics::slices::word_at;
 use lua51_function::function::Head;
 use lua51_instruction::instruction::decode;
+use lua51_instruction::instruction::flow_of;
 use lua51_instruction::instruction::opcode_of;
 use lua51_instruction::op::JMP;
 use lua51_instruction::op::RETURN;
@@ -74,8 +75,7 @@ fn word_verdict(head: Head, words: &[u32], kinds: &[u8], nested: &[u32], i: usiz
     ensures { λ r. ⌜ ((p : Proto) (us : List ℕ) → Stands p head (now (words .entry)) (now (kinds .entry)) (now (nested .entry)) us → verdictOf r ≡ wordVerdict p i) ⌝ }
 {
     let instruction = decode(word_at(words, i));
-    let row = instruction.row;
-    let flow = row.flow;
+    let flow = flow_of(instruction.fields.opcode);
     let outside = operand_fault(instruction, head, kinds, nested);
     let lands = lands_inside(flow, words, i);
     if outside {

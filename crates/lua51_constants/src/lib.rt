@@ -18,6 +18,7 @@ use lines::put_letter;
 use lines::put_line;
 use lines::put_number;
 use lines::put_numbers;
+use lines::put_small;
 use lua51_deserializer::fields::Cursor;
 use lua51_deserializer::fields::constant;
 use lua51_deserializer::fields::offset_of;
@@ -55,7 +56,7 @@ fn put_bytes(out: &mut [u8], at: usize, bytes: &[u8]) -> usize
     let mut next = at;
     let mut i = 0;
     while i < bytes.len() {
-        next = put_number(out, next, wide(bytes[i]));
+        next = put_small(out, next, bytes[i]);
         i += 1;
     }
     next

@@ -65,7 +65,7 @@ module _ (s : List ℕ) where
   unfolding string
   string-bounded i = then-bounded (length s) (countTo s most i) (body s (intAt s i)) (limited-bounded 4 most (intAt s i) i) (λ j l. body-bounded (intAt s i) j l)
 
-  constant-bounded : (i : ℕ) → Bounded (length s) (constant s i)
+  pub constant-bounded : (i : ℕ) → Bounded (length s) (constant s i)
   unfolding constant constantOf present
   constant-bounded i =
       whole-bounded 1 i _ (λ h.

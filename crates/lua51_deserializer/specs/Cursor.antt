@@ -8,7 +8,7 @@ use Rattle.lua51_deserializer.specs.declared.fields.Cursor.the-variants.
 use Rattle.lua51_deserializer.specs.declared.fields.ChunkFault.{ChunkFault}
 use Rattle.lua51_deserializer.specs.declared.fields.ChunkFault.the-variants.{TooLong, HeaderDiffers, Ended, OutOfRange, TooManyFunctions, LeftOver}
 use Rattle.lua51_deserializer.specs.declared.fields.Element.{Element}
-use Rattle.lua51_deserializer.specs.declared.fields.Element.the-variants.{Number, Constant, Local, Name}
+use Rattle.lua51_deserializer.specs.declared.fields.Element.the-variants.{Constant, Local, Name}
 
 -- the number of each fault of a chunk's bytes
 abbrev pub chunkFaultNumber : ChunkFault → ℕ
@@ -33,9 +33,8 @@ abbrev pub readOf : Cursor → Read
 readOf (Here i) = here i
 readOf (Refused f) = refused (chunkFaultNumber f) (chunkFaultPlace f)
 
--- what reads one element of a counted list: a word or a line, a constant, a local ('string and two 4-byte numbers'), a name
+-- what reads one element of a counted list: a constant, a local ('string and two 4-byte numbers'), a name
 abbrev pub elementOf : List ℕ → Element → ℕ → Read
-elementOf s Number = field s 4
 elementOf s Constant = constant s
 elementOf s Local = λ i. string s i then field s 4 then field s 4
 elementOf s Name = string s

@@ -7,7 +7,7 @@ use lua51_value::value::KIND_NIL;
 use lua51_value::value::KIND_NUMBER;
 use lua51_value::value::KIND_STRING;
 ghost use mathlib.Core.Path.{_≡_};
-ghost use Prim.Native.Nat.{_+_};
+ghost use Prim.Native.Nat.{_+_, _-_, _/_};
 ghost use lib.Dec.{leb};
 ghost use lib.ListN.{length};
 ghost use Rattle.lua51_deserializer.specs.Chunk.{_then_, again, offset, field, limited, byteTo, countTo, counted, body, string, present, constant, head, code, constants, lines, locals, names};
@@ -45,9 +45,8 @@ pub fn offset_of(c: Cursor) -> usize
     at
 }
 
-// What a counted list is made of.
+// What a counted list is made of, where it is not numbers.
 pub enum Element {
-    Number,
     Constant,
     Local,
     Name,
@@ -213,7 +212,6 @@ pub fn next_element(s: &[u8], c: Cursor, of: Element) -> Cursor
     ensures { λ r. ⌜ readOf r ≡ (readOf c then elementOf (now (s .entry)) of) ⌝ }
 {
     match of {
-        Element::Number => field(s, c, INT_SIZE),
         Element::Constant => constant(s, c),
         Element::Local => local(s, c),
         Element::Name => string(s, c),
@@ -246,6 +244,41 @@ pub fn counted(s: &[u8], c: Cursor, limit: u32, of: Element) -> Cursor
     elements(s, count_to(s, c, limit), of, int_at(s, at))
 }
 
+// How many 4-byte numbers are whole from offset `at` on.
+fn numbers_left(s: &[u8], at: usize) -> usize
+    ensures { λ r. ⌜ r ≡ (length (now (s .entry)) - at) / 4 ⌝ }
+{
+    if s.len() < at {
+        return 0;
+    }
+    (s.len() - at) / INT_SIZE
+}
+
+// `n` numbers, of any content; the first that is not whole is refused.
+fn numbers(s: &[u8], c: Cursor, n: u32) -> Cursor
+    ensures { λ r. ⌜ readOf r ≡ (readOf c then again (field (now (s .entry)) 4) n) ⌝ }
+{
+    let Cursor::Here(at) = c else {
+        return c;
+    };
+    let count = n as usize;
+    let left = numbers_left(s, at);
+    if left < count {
+        return Cursor::Refused(ChunkFault::Ended(at + INT_SIZE * left));
+    }
+    Cursor::Here(at + INT_SIZE * count)
+}
+
+// A counted list of numbers.
+fn counted_numbers(s: &[u8], c: Cursor, limit: u32) -> Cursor
+    ensures { λ r. ⌜ readOf r ≡ (readOf c then counted (now (s .entry)) limit (field (now (s .entry)) 4)) ⌝ }
+{
+    let Cursor::Here(at) = c else {
+        return c;
+    };
+    numbers(s, count_to(s, c, limit), int_at(s, at))
+}
+
 // What a function begins with: its source, two lines, upvalues, parameters, flags and stack.
 pub fn head(s: &[u8], c: Cursor) -> Cursor
     ensures { λ r. ⌜ readOf r ≡ (readOf c then head (now (s .entry))) ⌝ }
@@ -263,7 +296,7 @@ pub fn head(s: &[u8], c: Cursor) -> Cursor
 pub fn code(s: &[u8], c: Cursor) -> Cursor
     ensures { λ r. ⌜ readOf r ≡ (readOf c then code (now (s .entry))) ⌝ }
 {
-    counted(s, c, MOST_WORDS, Element::Number)
+    counted_numbers(s, c, MOST_WORDS)
 }
 
 // A function's constants.
@@ -277,7 +310,7 @@ pub fn constants(s: &[u8], c: Cursor) -> Cursor
 pub fn lines(s: &[u8], c: Cursor) -> Cursor
     ensures { λ r. ⌜ readOf r ≡ (readOf c then lines (now (s .entry))) ⌝ }
 {
-    counted(s, c, MOST, Element::Number)
+    counted_numbers(s, c, MOST)
 }
 
 // A function's local variables.

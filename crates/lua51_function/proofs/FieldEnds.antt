@@ -5,10 +5,13 @@ use mathlib.Core.Path.{_≡_, refl, _∙_, ap}
 use Prim.Native.Nat.{ℕ, zero, suc, _+_, _*_, _≤_, _<_}
 use native.Mathlib.Omega.{arith}
 use borrow.Author.Tests.{leb-true}
-use lib.Dec.{leb}
+use lib.Dec.{leb, eqb}
 use lib.ListN.{length, getD}
-use Rattle.lua51_deserializer.specs.Chunk.{Read, here, refused, _then_, again, byteTo, countTo, field, limited, counted, constant, string, head, code, bytesOf, wordsOf, most-flags, most-words, offset}
+use Rattle.lua51_deserializer.specs.Chunk.{Read, here, refused, _then_, again, byteTo, countTo, field, limited, counted, whole, body, constantOf, constant, present, string, head, code, bytesOf, wordsOf, most, most-flags, most-words, offset}
 use Rattle.lua51_value.specs.Bytes.{byteAt, intAt}
+use Rattle.lua51_value.specs.Value.{kind-nil, kind-boolean, kind-number, kind-string}
+use Rattle.basics.proofs.Tests.{either-way}
+use Rattle.lua51_deserializer.proofs.Bounds.{constant-bounded}
 use Rattle.lua51_function.specs.Function.{placesFrom}
 
 -- a refusal is no offset
@@ -80,6 +83,48 @@ module _ (s : List ℕ) where
       (small, numbers-here (intAt s i) (i + 4) j rest)
 
   -- ------------------------------------------------------------ constants
+
+  body-on : (k i j : ℕ) → body s k i ≡ here j → i ≤ j
+  unfolding body
+  body-on zero i j e = omega (arith, here-is e)
+  body-on (suc k) i j e =
+      let whole = passed (leb (i + suc k) (length s)) _ 3 i e .1 in
+      omega (arith, here-is (passed (eqb (byteAt s (i + k)) 0) (here (i + suc k)) 4 i whole .1))
+
+  string-on : (i j : ℕ) → string s i ≡ here j → i ≤ j
+  unfolding string
+  string-on i j e =
+      let (k, size, rest) = then-here (countTo s most i) (body s (intAt s i)) j e in
+      omega (arith, limited-here 4 most (intAt s i) i k size .0, body-on (intAt s i) k j rest)
+
+  -- a constant takes a byte at least
+  constant-on : (i j : ℕ) → constant s i ≡ here j → i + 1 ≤ j
+  unfolding constant constantOf present
+  constant-on i j e =
+      let kind = passed (leb (i + 1) (length s)) (constantOf s (byteAt s i) i) 3 i e .1 in
+      either-way (eqb (byteAt s i) kind-nil)
+      (λ n. omega (arith, here-is (rw n at kind)))
+      (λ n. either-way (eqb (byteAt s i) kind-boolean)
+      (λ b. omega (arith, limited-here 1 1 (byteAt s (i + 1)) (i + 1) j (rw (n, b) at kind) .0))
+      (λ b. either-way (eqb (byteAt s i) kind-number)
+      (λ m. omega (arith, field-here 8 (i + 1) j (rw (n, b, m) at kind)))
+      (λ m. either-way (eqb (byteAt s i) kind-string)
+      (λ t. text (rw (n, b, m, t) at kind))
+      (λ t. never (rw (n, b, m, t) at kind)))))
+    where
+      text : whole s 4 (i + 1) (cond (eqb (intAt s (i + 1)) 0) (refused 4 (i + 1)) (string s (i + 1))) ≡ here j → i + 1 ≤ j
+      text e = let sized = passed (leb (i + 1 + 4) (length s)) _ 3 (i + 1) e .1 in
+          either-way (eqb (intAt s (i + 1)) 0)
+          (λ z. never (rw z at sized))
+          (λ z. string-on (i + 1) j (rw z at sized))
+
+  -- so n of them take n bytes at least
+  pub constants-on : (n i j : ℕ) → again (constant s) n i ≡ here j → i ≤ length s → i + n ≤ length s
+  unfolding again
+  constants-on zero i j e h = omega arith
+  constants-on (suc n) i j e h =
+      let (k, first, rest) = then-here (constant s i) (again (constant s) n) j e in
+      omega (arith, constant-on i k first, constants-on n k j rest (rw first at (constant-bounded s i)))
 
   -- each of n constants was read
   pub each-here : (n i j : ℕ) → again (constant s) n i ≡ here j → (k : ℕ) → k < n → (m : ℕ) × (constant s (getD (placesFrom s i n) k 0) ≡ here m)

@@ -12,9 +12,9 @@ use Rattle.basics.specs.Range.{only}
 use Rattle.lua51_deserializer.specs.Chunk.{Read, here, refused, _then_, countTo, constant, head, code, constants, lines, locals, names, field, string, Place, nowhere, Walk, walked, from, _next_, many, begin, nest, finish, function, signature, header, ends, walk, offset, wordsOf, constantsOf, constantsAt, nestedIn, protoAt, most, most-bytes, most-depth, most-functions}
 use Rattle.lua51_value.specs.Bytes.{intAt}
 use Rattle.lua51_value.specs.Constant.{within}
-use Rattle.lua51_function.specs.Function.{numberIn, upvaluesIn, WasRead, InLimits, WholeChunk, Unrefused}
+use Rattle.lua51_function.specs.Function.{numberIn, upvaluesIn, WasRead, InLimits, Takes, WholeChunk, Unrefused}
 use Rattle.basics.proofs.Tests.{either-way}
-use Rattle.lua51_function.proofs.FieldEnds.{never, then-here, counted-here, head-here, code-here, each-here}
+use Rattle.lua51_function.proofs.FieldEnds.{never, then-here, counted-here, head-here, code-here, each-here, constants-on}
 use Rattle.lua51_function.proofs.Buffers.{ints-length, places-count, values-are, nested-start}
 
 -- ------------------------------------------------------------ one function
@@ -76,6 +76,19 @@ in-limits s ps f few r =
       nups = nested-few (upvaluesIn s) f ps few;
       lines = rw (ints-length s (p .tail + 4) (intAt s (p .tail))) (counted-here s most (field s 4) (p .tail) a line .0);
       names = rw at (counted-here s most (string s) b (r .end) name .0);
+    }
+
+-- its words take four bytes each and stand before its constants, which take one at least
+takes : (s : List ℕ) (ps : List Place) (f : ℕ) → WasRead s (getD ps f nowhere) → Takes s (protoAt s ps f)
+unfolding protoAt constantsAt constants
+takes s ps f r =
+    let p = getD ps f nowhere in
+    let w = wordsOf s (p .start) in
+    let k = constantsOf s (p .start) in
+    let (small, inside, each) = counted-here s most (constant s) k (r .nested) (r .constants) in
+    record {
+      words = omega (arith, inside, ints-length s (w + 4) (intAt s w));
+      kinds = simp length-map (rw (values-are s (k + 4) (intAt s k)) (simp length-map (rw (places-count s (within s (k + 4)) (intAt s k)) (omega (arith, constants-on s (intAt s k) (k + 4) (r .nested) each inside)))));
     }
 
 -- ------------------------------------------------------------ the walk
@@ -188,6 +201,7 @@ module _ (s : List ℕ) where
         functions = rw t few;
         read = rw t read;
         limited = rw t (λ f h. in-limits s (w .places) f few (read f h));
+        taken = rw t (λ f h. takes s (w .places) f (read f h));
       })
 
 pub whole-chunk : Unrefused

@@ -52,11 +52,10 @@ module _ (s : List ℕ) (ps : List Place) (f : ℕ) where
   constants-count = rw constants-are (simp length-map)
 
 module _ (s : List ℕ) (ps : List Place) (f : ℕ) (r : Loaded) (ws ws′ ks ks′ ns ns′ us us′ : List ℕ) where
-  holds : WasRead s (getD ps f nowhere) → InLimits (protoAt s ps f) → Roomy ws ns us
+  holds : WasRead s (getD ps f nowhere) → InLimits (protoAt s ps f) → Roomy (protoAt s ps f) ws ns us
       → Loads s ps f r ws ws′ ks ks′ ns ns′ us us′ → Holds s ps f r ws′ ks′ ns′ us′
   holds read limits room l =
       let p = protoAt s ps f in
-      let words : length (p .words) ≤ length ws = omega arith in
       let nested : length (p .nested) ≤ min (length ns) (length us) = omega arith in
       let nups : length (p .nups) ≤ min (length ns) (length us) = omega arith in
       record {
@@ -68,13 +67,13 @@ module _ (s : List ℕ) (ps : List Place) (f : ℕ) (r : Loaded) (ws ws′ ks ks
           stack = ap (λ (h : Head). h .stack) (sym (l .head));
           lines = ap (λ (h : Head). h .lines) (sym (l .head));
           names = ap (λ (h : Head). h .names) (sym (l .head));
-          words = whole-content (l .words) words;
+          words = whole-content (l .words) (room .words);
           kinds = refl;
           nested = whole-content (l .nested) nested;
           nups = whole-content (l .nups) nups;
         };
         kinds = λ h. whole-content (l .kinds) (omega (arith, filled-length (l .kinds)));
-        words = whole-count (l .words) words;
+        words = whole-count (l .words) (room .words);
         nested = whole-count (l .nested) nested;
         limits = limits;
         places = l .places;

@@ -1,7 +1,7 @@
 -- The function that the code holds as a head and lists of numbers, and what the buffers hold once it is read.
 use mathlib.Core.List.{List, [], _∷_, _++_}
 use mathlib.Core.Path.{_≡_}
-use Prim.Native.Nat.{ℕ, zero, suc, _+_, _≤_, _<_, min}
+use Prim.Native.Nat.{ℕ, zero, suc, _+_, _*_, _≤_, _<_, min}
 use lib.ListN.{getD, length, take, drop}
 use Rattle.lua51_instruction.specs.Proto.{Proto}
 use Rattle.lua51_deserializer.specs.Chunk.{here, _then_, offset, constant, head, code, constants, lines, locals, names, Place, nowhere, walk, bytesOf, wordsOf, constantsOf, nestedIn, protoAt, most, most-bytes, most-flags, most-functions, most-words, constantsAt}
@@ -129,27 +129,37 @@ pub record InLimits (p : Proto) : Type 0 where
   pub lines : length (p .lines) ≤ most
   pub names : p .names ≤ most
 
+-- a function takes at least four bytes of its chunk for each word, and one for each constant
+pub record Takes (s : List ℕ) (p : Proto) : Type 0 where
+  pub words : 4 * length (p .words) ≤ length s
+  pub kinds : length (p .kinds) ≤ length s
+
 -- what a chunk that is not refused is: short enough, of few functions, each read and within the limits
 pub record WholeChunk (s : List ℕ) : Type 0 where
   pub bytes : length s ≤ most-bytes
   pub functions : length (walk s .places) ≤ most-functions
   pub read : (f : ℕ) → f < length (walk s .places) → WasRead s (getD (walk s .places) f nowhere)
   pub limited : (f : ℕ) → f < length (walk s .places) → InLimits (protoAt s (walk s .places) f)
+  pub taken : (f : ℕ) → f < length (walk s .places) → Takes s (protoAt s (walk s .places) f)
 
 -- ------------------------------------------------------------ a function that is held whole
 
--- the buffers have room for the words and the nested functions of every function of a chunk; whoever needs the kinds of its
--- constants lends room for the most beside them
-pub record Roomy (ws ns us : List ℕ) : Type 0 where
-  pub words : most-words ≤ length ws
+-- a function of at most so many words, as most are, gets less room
+abbrev pub few-words : ℕ
+few-words = 256
+
+-- the buffers have room for the words of p, and for the functions that can be nested in it; whoever needs the kinds of its
+-- constants lends room for them beside these
+pub record Roomy (p : Proto) (ws ns us : List ℕ) : Type 0 where
+  pub words : length (p .words) ≤ length ws
   pub nested : most-functions ≤ length ns
   pub nups : most-functions ≤ length us
 
--- the buffers hold all of function f, as many of each list as r says, and its kinds where there was room for the most; from the
+-- the buffers hold all of function f, as many of each list as r says, and its kinds where there was room for them; from the
 -- place of its first constant on, each was read, and its value is the function's
 pub record Holds (s : List ℕ) (ps : List Place) (f : ℕ) (r : Loaded) (ws ks ns us : List ℕ) : Type 0 where
   pub stands : Stands (protoAt s ps f) (r .head) (take (r .words) ws) (protoAt s ps f .kinds) (take (r .nested) ns) (take (r .nested) us)
-  pub kinds : most ≤ length ks → protoAt s ps f .kinds ≡ take (r .kinds) ks
+  pub kinds : length (protoAt s ps f .kinds) ≤ length ks → protoAt s ps f .kinds ≡ take (r .kinds) ks
   pub words : length (protoAt s ps f .words) ≡ r .words
   pub nested : length (protoAt s ps f .nested) ≡ r .nested
   pub limits : InLimits (protoAt s ps f)
@@ -166,5 +176,5 @@ abbrev pub HoldsEach : Type 0
 HoldsEach =
     (s : List ℕ) (w : Walked) (at f : ℕ) (r : Loaded) (ws ws′ ks ks′ ns ns′ us us′ : List ℕ)
     → walkOf w ≡ walk s → w .cursor ≡ Here at → f < w .functions .count
-    → Loads s (heldOf (w .functions)) f r ws ws′ ks ks′ ns ns′ us us′ → Roomy ws ns us
+    → Loads s (heldOf (w .functions)) f r ws ws′ ks ks′ ns ns′ us us′ → Roomy (protoAt s (walk s .places) f) ws ns us
     → Holds s (walk s .places) f r ws′ ks′ ns′ us′

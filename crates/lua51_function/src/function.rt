@@ -20,7 +20,7 @@ ghost use mathlib.Core.Path.{_≡_};
 ghost use mathlib.Core.List.{map};
 ghost use Prim.Native.Nat.{_+_, min};
 ghost use lib.ListN.{getD, length};
-ghost use Rattle.lua51_deserializer.specs.Chunk.{offset, ints, nowhere, bytesOf, wordsOf, constantsOf, nestedIn, protoAt};
+ghost use Rattle.lua51_deserializer.specs.Chunk.{ints, nowhere, bytesOf, wordsOf, constantsOf, nestedIn, protoAt};
 ghost use Rattle.lua51_value.specs.Bytes.{intAt};
 ghost use Rattle.lua51_value.specs.Constant.{within};
 ghost use Rattle.lua51_function.specs.Function.{heldCount, heldOf, numberIn, upvaluesIn, NextNested, placesFrom, kindAt, Filled, headOf, Loads};
@@ -58,6 +58,11 @@ pub const MOST_MARKS: usize = MOST_WORDS + 1;
 pub const MOST_CONSTANTS: usize = lua51_deserializer::fields::MOST as usize;
 
 pub const MOST_NESTED: usize = MOST_FUNCTIONS;
+
+// Room for a function of few words, as most are: its words, and their marks.
+pub const FEW_WORDS: usize = 256;
+
+pub const FEW_MARKS: usize = FEW_WORDS + 1;
 
 // Two lines stand between a function's source and its four bytes.
 const LINES_SIZE: usize = 8;
@@ -128,6 +133,13 @@ fn constants_of(s: &[u8], start: usize) -> usize
     let words = words_of(s, start);
     let size = INT_SIZE * (int_at(s, words) as usize);
     place_after(s, words, INT_SIZE + size)
+}
+
+// How many words function f has.
+pub fn word_count(s: &[u8], functions: Functions, f: u32) -> usize
+    ensures { λ r. ⌜ r ≡ length (protoAt (now (s .entry)) (heldOf functions) f .words) ⌝ }
+{
+    int_at(s, words_of(s, start_of(functions, f as usize))) as usize
 }
 
 // Function f without its lists.

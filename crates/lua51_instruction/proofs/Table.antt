@@ -3,7 +3,7 @@ use mathlib.Core.Bool.{Bool, _&&_, true, not, _||_, false}
 use Prim.Native.Nat.{ℕ, _≤_, _<_, zero, suc}
 use mathlib.Core.List.{List, foldr, _∷_, []}
 use Rattle.lua51_instruction.specs.Word.{straight, skip, jump, test, test-set, loop-entry, numeric-loop}
-use Rattle.lua51_instruction.specs.Word.{generic-loop, exit, opOf, row}
+use Rattle.lua51_instruction.specs.Word.{generic-loop, exit, opcodes, opOf, row}
 use Rattle.lua51_instruction.specs.Word.{rowOf, Flow, Op, numberOf, LOADBOOL, UNKNOWN, JMP, EQ, LT, LE}
 use Rattle.lua51_instruction.specs.Word.{TEST, TESTSET, RETURN, FORLOOP, MOVE, LOADK, LOADNIL, GETUPVAL}
 use Rattle.lua51_instruction.specs.Word.{GETGLOBAL, GETTABLE, SETGLOBAL, SETUPVAL, SETTABLE, NEWTABLE, SELF, ADD}
@@ -12,10 +12,10 @@ use Rattle.lua51_instruction.specs.Word.{TFORLOOP, SETLIST, CLOSE, CLOSU
 use Rattle.lua51_instruction.specs.Proto.{Proto, flowAt, opcode, size, word, opAt}
 use mathlib.Core.Path.{_≡_, refl}
 use Rattle.basics.proofs.Tests.{and-left, or-cases, clash, and-right, not-is, either-way}
-use lib.Dec.{leb, eqb}
+use lib.Dec.{leb, ltb, eqb}
 use native.Mathlib.Omega.{arith}
-use borrow.Author.Tests.{eqb-false, leb-true, eqb-true}
-use lib.ListN.{List·getD-eq-default}
+use borrow.Author.Tests.{eqb-false, leb-true, eqb-true, ne-eqb, ltb-true, ltb-false}
+use lib.ListN.{length, List·getD-eq-default}
 
 -- ------------------------------------------------------------ by an opcode's name
 
@@ -79,10 +79,13 @@ all-below f (suc n) i h lt = either-way (eqb i n)
 abbrev pub among : List Op → ℕ → Bool
 among ops o = foldr {B = Bool} (λ (x : Op) (r : Bool). eqb o (numberOf x) || r) false ops
 
+-- the opcodes that do not go straight on
+abbrev turning : List Op
+turning = LOADBOOL ∷ JMP ∷ EQ ∷ LT ∷ LE ∷ TEST ∷ TESTSET ∷ RETURN ∷ FORLOOP ∷ FORPREP ∷ TFORLOOP ∷ []
+
 -- the opcodes of each kind of flow
 abbrev pub opcodesOf : Flow → ℕ → Bool
-opcodesOf straight o =
-    not (among (LOADBOOL ∷ JMP ∷ EQ ∷ LT ∷ LE ∷ TEST ∷ TESTSET ∷ RETURN ∷ FORLOOP ∷ FORPREP ∷ TFORLOOP ∷ []) o)
+opcodesOf straight o = not (among turning o)
 opcodesOf skip o = eqb o (numberOf LOADBOOL)
 opcodesOf jump o = eqb o (numberOf JMP)
 opcodesOf test o = among (EQ ∷ LT ∷ LE ∷ TEST ∷ []) o
@@ -99,6 +102,43 @@ rowTest o = opcodesOf (rowOf o .flow) o && (leb (numberOf UNKNOWN) o || eqb (num
 table : allBelow rowTest 64 ≡ true
 unfolding rowTest rowOf row opOf
 table = refl
+
+-- ------------------------------------------------------------ straight on
+
+-- o is the number of none of some opcodes, as the last arm of a match has it behind what holds before
+abbrev Missed : List Op → ℕ → Type 0 → Type 0
+Missed [] o before = before
+Missed (x ∷ ops) o before = Missed ops o (before × (o ≡ numberOf x → ⊥))
+
+missed : (ops : List Op) (o : ℕ) (before : Type 0) → Missed ops o before → (among ops o ≡ false) × before
+missed [] o before h = (refl, h)
+missed (x ∷ ops) o before h =
+    let (none, (first, ne)) = missed ops o (before × (o ≡ numberOf x → ⊥)) h in
+    (rw (ne-eqb o (numberOf x) ne) none, first)
+
+-- a flow that has the opcode o is straight, where none of the others has it
+module _ (o : ℕ) (small : o < 64) (plain : opcodesOf straight o ≡ true) where
+  apart : {A : Type 0} (f : Flow) → allBelow (λ x. not (opcodesOf f x && opcodesOf straight x)) 64 ≡ true → opcodesOf f o ≡ true → A
+  apart f h e = clash (all-below (λ x. not (opcodesOf f x && opcodesOf straight x)) 64 o h small) (rw (e, plain))
+
+  only-straight : (f : Flow) → opcodesOf f o ≡ true → f ≡ straight
+  only-straight straight e = refl
+  only-straight skip e = apart skip refl e
+  only-straight jump e = apart jump refl e
+  only-straight test e = apart test refl e
+  only-straight test-set e = apart test-set refl e
+  only-straight loop-entry e = apart loop-entry refl e
+  only-straight numeric-loop e = apart numeric-loop refl e
+  only-straight generic-loop e = apart generic-loop refl e
+  only-straight exit e = apart exit refl e
+
+-- an opcode that is none of those that turn goes straight on, and so does every number above 37
+pub straight-on : (o : ℕ) → Missed turning o (Unit {0}) → rowOf o .flow ≡ straight
+unfolding rowTest rowOf row opOf
+straight-on o h = either-way (ltb o 64)
+    (λ b. let small = ltb-true o 64 b in
+    only-straight o small (rw (missed turning o (Unit {0}) h .0)) (rowOf o .flow) (and-left (opcodesOf (rowOf o .flow) o) _ (all-below rowTest 64 o table small)))
+    (λ b. let unknown : length opcodes ≤ o = omega (arith, ltb-false o 64 b) in rw (List·getD-eq-default opcodes UNKNOWN unknown))
 
 -- ------------------------------------------------------------ the words of a function
 

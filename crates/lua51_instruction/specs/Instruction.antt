@@ -23,6 +23,7 @@ use Rattle.lua51_instruction.specs.declared.instruction.Flow.the-variant
 use Rattle.lua51_instruction.specs.declared.instruction.Flow.the-variants.{Exit}
 use Rattle.lua51_instruction.specs.declared.instruction.RowNumbers.{RowNumbers}
 use Rattle.lua51_instruction.specs.declared.instruction.Row.{Row}
+use Rattle.lua51_instruction.specs.declared.instruction.Fields.{Fields}
 use Rattle.lua51_instruction.specs.declared.instruction.Instruction.{Instruction}
 
 -- ------------------------------------------------------------ the table
@@ -61,22 +62,16 @@ flowMeant NumericLoop = numeric-loop
 flowMeant GenericLoop = generic-loop
 flowMeant Exit = exit
 
--- the kinds and the flows in the order of their numbers in the code's table
+-- the kinds in the order of their numbers in the code's table
 abbrev pub kinds : List Kind
 kinds =
     Unused ∷ Register ∷ Either ∷ Upvalue ∷ Flag ∷ Constant ∷ Global ∷ Nested ∷ Offset ∷
     Pair ∷ Quartet ∷ LastFromA ∷ LastFromB ∷ Arguments ∷ Values ∷ Varargs ∷ Elements ∷ Variables ∷ BlockNumber ∷ []
 
-abbrev pub flows : List Flow
-flows = Straight ∷ Skip ∷ Jump ∷ Test ∷ TestSet ∷ LoopEntry ∷ NumericLoop ∷ GenericLoop ∷ Exit ∷ []
-
 abbrev pub kindNumbered : ℕ → Kind
 kindNumbered n = getD kinds n Unused
 
-abbrev pub flowNumbered : ℕ → Flow
-flowNumbered n = getD flows n Straight
-
--- the number of each kind and of each flow
+-- the number of each kind
 abbrev pub kindNumber : word.Kind → ℕ
 kindNumber unused = 0
 kindNumber register = 1
@@ -98,35 +93,27 @@ kindNumber elements = 16
 kindNumber variables = 17
 kindNumber block-number = 18
 
-abbrev pub flowNumber : word.Flow → ℕ
-flowNumber straight = 0
-flowNumber skip = 1
-flowNumber jump = 2
-flowNumber test = 3
-flowNumber test-set = 4
-flowNumber loop-entry = 5
-flowNumber numeric-loop = 6
-flowNumber generic-loop = 7
-flowNumber exit = 8
-
--- a row of the table in numbers
+-- the kinds of a row of the table in numbers
 abbrev pub inNumbers : word.Row → RowNumbers
-inNumbers r = (kindNumber (r .a), kindNumber (r .b), kindNumber (r .c), flowNumber (r .flow))
+inNumbers r = (kindNumber (r .a), kindNumber (r .b), kindNumber (r .c))
 
--- r stands for a row
+-- r stands for the kinds of a row
 pub record Means (row : word.Row) (r : Row) : Type 0 where
   pub a : kindMeant (r .a) ≡ row .a
   pub b : kindMeant (r .b) ≡ row .b
   pub c : kindMeant (r .c) ≡ row .c
-  pub flow : flowMeant (r .flow) ≡ row .flow
 
 -- ------------------------------------------------------------ instructions
 
--- r is word w decoded: 'Bits from the lowest: opcode 6, A 8, C 9, B 9; Bx is the upper 18', and the opcode's row
-pub record Decodes (w : ℕ) (r : Instruction) : Type 0 where
+-- r has the fields of word w: 'Bits from the lowest: opcode 6, A 8, C 9, B 9; Bx is the upper 18'
+pub record FieldsOf (w : ℕ) (r : Fields) : Type 0 where
   pub opcode : r .opcode ≡ fieldOpcode w
   pub a : r .a ≡ fieldA w
   pub b : r .b ≡ fieldB w
   pub c : r .c ≡ fieldC w
   pub bx : r .bx ≡ fieldBx w
+
+-- r is word w decoded: its fields, and the opcode's row
+pub record Decodes (w : ℕ) (r : Instruction) : Type 0 where
+  pub fields : FieldsOf w (r .fields)
   pub row : Means (rowOf (fieldOpcode w)) (r .row)

@@ -4,8 +4,9 @@ ghost use Prim.Native.Nat.{min};
 ghost use lib.IntN.{pos};
 ghost use Rattle.lua51_instruction.specs.Word.{fieldOpcode, fieldA, fieldB, fieldC, fieldBx, rowOf};
 ghost use Rattle.lua51_instruction.specs.Jump.{sBx, largest-i32, targetOf};
-ghost use Rattle.lua51_instruction.specs.Instruction.{kindNumbered, flowNumbered, inNumbers, Means, Decodes};
+ghost use Rattle.lua51_instruction.specs.Instruction.{kindNumbered, flowMeant, inNumbers, Means, FieldsOf, Decodes};
 use crate::bits::field;
+use crate::op;
 
 // ------------------------------------------------------------ fields
 
@@ -257,100 +258,55 @@ fn kind_of(number: u8) -> Kind
     Kind::Unused
 }
 
-// The number of each flow in the table.
-const STRAIGHT: u8 = 0;
-
-const SKIP: u8 = 1;
-
-const JUMP: u8 = 2;
-
-const TEST: u8 = 3;
-
-const TEST_SET: u8 = 4;
-
-const LOOP_ENTRY: u8 = 5;
-
-const NUMERIC_LOOP: u8 = 6;
-
-const GENERIC_LOOP: u8 = 7;
-
-const EXIT: u8 = 8;
-
-// The flows by number.
-const FLOW_COUNT: usize = 9;
-
-const FLOWS: [Flow; FLOW_COUNT] = [
-    Flow::Straight,
-    Flow::Skip,
-    Flow::Jump,
-    Flow::Test,
-    Flow::TestSet,
-    Flow::LoopEntry,
-    Flow::NumericLoop,
-    Flow::GenericLoop,
-    Flow::Exit,
-];
-
-// The flow of a number; a number above the last goes straight on.
-fn flow_of(number: u8) -> Flow
-    ensures { λ r. ⌜ r ≡ flowNumbered number ⌝ }
-{
-    let i = number as usize;
-    if i < FLOW_COUNT {
-        return FLOWS[i];
-    }
-    Flow::Straight
-}
-
-// A row of the table in numbers: the kinds of A, B and C, and the flow.
-struct RowNumbers(u8, u8, u8, u8);
+// A row of the table in numbers: the kinds of A, B and C.
+struct RowNumbers(u8, u8, u8);
 
 // How many opcodes there are.
 pub const OPCODES: usize = 38;
 
 // The table of the opcodes 0 to 37, in the order of lopcodes.h.
 const ROWS: [RowNumbers; OPCODES] = [
-    RowNumbers(REGISTER, REGISTER, UNUSED, STRAIGHT), // MOVE
-    RowNumbers(REGISTER, CONSTANT, UNUSED, STRAIGHT), // LOADK
-    RowNumbers(REGISTER, FLAG, FLAG, SKIP), // LOADBOOL
-    RowNumbers(REGISTER, LAST_FROM_A, UNUSED, STRAIGHT), // LOADNIL
-    RowNumbers(REGISTER, UPVALUE, UNUSED, STRAIGHT), // GETUPVAL
-    RowNumbers(REGISTER, GLOBAL, UNUSED, STRAIGHT), // GETGLOBAL
-    RowNumbers(REGISTER, REGISTER, EITHER, STRAIGHT), // GETTABLE
-    RowNumbers(REGISTER, GLOBAL, UNUSED, STRAIGHT), // SETGLOBAL
-    RowNumbers(REGISTER, UPVALUE, UNUSED, STRAIGHT), // SETUPVAL
-    RowNumbers(REGISTER, EITHER, EITHER, STRAIGHT), // SETTABLE
-    RowNumbers(REGISTER, UNUSED, UNUSED, STRAIGHT), // NEWTABLE
-    RowNumbers(PAIR, REGISTER, EITHER, STRAIGHT), // SELF
-    RowNumbers(REGISTER, EITHER, EITHER, STRAIGHT), // ADD
-    RowNumbers(REGISTER, EITHER, EITHER, STRAIGHT), // SUB
-    RowNumbers(REGISTER, EITHER, EITHER, STRAIGHT), // MUL
-    RowNumbers(REGISTER, EITHER, EITHER, STRAIGHT), // DIV
-    RowNumbers(REGISTER, EITHER, EITHER, STRAIGHT), // MOD
-    RowNumbers(REGISTER, EITHER, EITHER, STRAIGHT), // POW
-    RowNumbers(REGISTER, REGISTER, UNUSED, STRAIGHT), // UNM
-    RowNumbers(REGISTER, REGISTER, UNUSED, STRAIGHT), // NOT
-    RowNumbers(REGISTER, REGISTER, UNUSED, STRAIGHT), // LEN
-    RowNumbers(REGISTER, REGISTER, LAST_FROM_B, STRAIGHT), // CONCAT
-    RowNumbers(UNUSED, OFFSET, UNUSED, JUMP), // JMP
-    RowNumbers(FLAG, EITHER, EITHER, TEST), // EQ
-    RowNumbers(FLAG, EITHER, EITHER, TEST), // LT
-    RowNumbers(FLAG, EITHER, EITHER, TEST), // LE
-    RowNumbers(REGISTER, UNUSED, FLAG, TEST), // TEST
-    RowNumbers(REGISTER, REGISTER, FLAG, TEST_SET), // TESTSET
-    RowNumbers(REGISTER, ARGUMENTS, VALUES, STRAIGHT), // CALL
-    RowNumbers(REGISTER, ARGUMENTS, UNUSED, STRAIGHT), // TAILCALL
-    RowNumbers(REGISTER, VALUES, UNUSED, EXIT), // RETURN
-    RowNumbers(QUARTET, OFFSET, UNUSED, NUMERIC_LOOP), // FORLOOP
-    RowNumbers(QUARTET, OFFSET, UNUSED, LOOP_ENTRY), // FORPREP
-    RowNumbers(REGISTER, UNUSED, VARIABLES, GENERIC_LOOP), // TFORLOOP
-    RowNumbers(REGISTER, ELEMENTS, BLOCK_NUMBER, STRAIGHT), // SETLIST
-    RowNumbers(REGISTER, UNUSED, UNUSED, STRAIGHT), // CLOSE
-    RowNumbers(REGISTER, NESTED, UNUSED, STRAIGHT), // CLOSURE
-    RowNumbers(REGISTER, VARARGS, UNUSED, STRAIGHT), // VARARG
+    RowNumbers(REGISTER, REGISTER, UNUSED), // MOVE
+    RowNumbers(REGISTER, CONSTANT, UNUSED), // LOADK
+    RowNumbers(REGISTER, FLAG, FLAG), // LOADBOOL
+    RowNumbers(REGISTER, LAST_FROM_A, UNUSED), // LOADNIL
+    RowNumbers(REGISTER, UPVALUE, UNUSED), // GETUPVAL
+    RowNumbers(REGISTER, GLOBAL, UNUSED), // GETGLOBAL
+    RowNumbers(REGISTER, REGISTER, EITHER), // GETTABLE
+    RowNumbers(REGISTER, GLOBAL, UNUSED), // SETGLOBAL
+    RowNumbers(REGISTER, UPVALUE, UNUSED), // SETUPVAL
+    RowNumbers(REGISTER, EITHER, EITHER), // SETTABLE
+    RowNumbers(REGISTER, UNUSED, UNUSED), // NEWTABLE
+    RowNumbers(PAIR, REGISTER, EITHER), // SELF
+    RowNumbers(REGISTER, EITHER, EITHER), // ADD
+    RowNumbers(REGISTER, EITHER, EITHER), // SUB
+    RowNumbers(REGISTER, EITHER, EITHER), // MUL
+    RowNumbers(REGISTER, EITHER, EITHER), // DIV
+    RowNumbers(REGISTER, EITHER, EITHER), // MOD
+    RowNumbers(REGISTER, EITHER, EITHER), // POW
+    RowNumbers(REGISTER, REGISTER, UNUSED), // UNM
+    RowNumbers(REGISTER, REGISTER, UNUSED), // NOT
+    RowNumbers(REGISTER, REGISTER, UNUSED), // LEN
+    RowNumbers(REGISTER, REGISTER, LAST_FROM_B), // CONCAT
+    RowNumbers(UNUSED, OFFSET, UNUSED), // JMP
+    RowNumbers(FLAG, EITHER, EITHER), // EQ
+    RowNumbers(FLAG, EITHER, EITHER), // LT
+    RowNumbers(FLAG, EITHER, EITHER), // LE
+    RowNumbers(REGISTER, UNUSED, FLAG), // TEST
+    RowNumbers(REGISTER, REGISTER, FLAG), // TESTSET
+    RowNumbers(REGISTER, ARGUMENTS, VALUES), // CALL
+    RowNumbers(REGISTER, ARGUMENTS, UNUSED), // TAILCALL
+    RowNumbers(REGISTER, VALUES, UNUSED), // RETURN
+    RowNumbers(QUARTET, OFFSET, UNUSED), // FORLOOP
+    RowNumbers(QUARTET, OFFSET, UNUSED), // FORPREP
+    RowNumbers(REGISTER, UNUSED, VARIABLES), // TFORLOOP
+    RowNumbers(REGISTER, ELEMENTS, BLOCK_NUMBER), // SETLIST
+    RowNumbers(REGISTER, UNUSED, UNUSED), // CLOSE
+    RowNumbers(REGISTER, NESTED, UNUSED), // CLOSURE
+    RowNumbers(REGISTER, VARARGS, UNUSED), // VARARG
 ];
 
-// The row of an opcode in numbers. An opcode above 37 uses no operand and goes straight on.
+// The row of an opcode in numbers. An opcode above 37 uses no operand.
 fn row_numbers_of(opcode: u8) -> RowNumbers
     ensures { λ r. ⌜ r ≡ inNumbers (rowOf opcode) ⌝ }
 {
@@ -358,19 +314,18 @@ fn row_numbers_of(opcode: u8) -> RowNumbers
     if i < OPCODES {
         return ROWS[i];
     }
-    RowNumbers(UNUSED, UNUSED, UNUSED, STRAIGHT)
+    RowNumbers(UNUSED, UNUSED, UNUSED)
 }
 
-// What the table says of an opcode: the kinds of its operands, and its flow. The kind of Bx or sBx stands under b.
+// What the table says of an opcode: the kinds of its operands. The kind of Bx or sBx stands under b.
 pub struct Row {
     pub a: Kind,
     pub b: Kind,
     pub c: Kind,
-    pub flow: Flow,
 }
 
 // The row of an opcode.
-pub fn row_of(opcode: u8) -> Row
+fn row_of(opcode: u8) -> Row
     ensures { λ r. ⌜ Means (rowOf opcode) r ⌝ }
 {
     let e = row_numbers_of(opcode);
@@ -378,19 +333,56 @@ pub fn row_of(opcode: u8) -> Row
         a: kind_of(e.0),
         b: kind_of(e.1),
         c: kind_of(e.2),
-        flow: flow_of(e.3),
+    }
+}
+
+// The flow of an opcode. An opcode above 37 goes straight on.
+pub fn flow_of(opcode: u8) -> Flow
+    ensures { λ r. ⌜ flowMeant r ≡ rowOf opcode .flow ⌝ }
+{
+    match opcode {
+        op::LOADBOOL => Flow::Skip,
+        op::JMP => Flow::Jump,
+        op::EQ => Flow::Test,
+        op::LT => Flow::Test,
+        op::LE => Flow::Test,
+        op::TEST => Flow::Test,
+        op::TESTSET => Flow::TestSet,
+        op::RETURN => Flow::Exit,
+        op::FORLOOP => Flow::NumericLoop,
+        op::FORPREP => Flow::LoopEntry,
+        op::TFORLOOP => Flow::GenericLoop,
+        _ => Flow::Straight,
     }
 }
 
 // ------------------------------------------------------------ instructions
 
-// A decoded word: its opcode, its operands, and what the table says of them.
-pub struct Instruction {
+// The fields of a word: its opcode and its operands.
+pub struct Fields {
     pub opcode: u8,
     pub a: u8,
     pub b: u16,
     pub c: u16,
     pub bx: u32,
+}
+
+// Splits a word into its fields.
+pub fn fields_of(word: u32) -> Fields
+    ensures { λ r. ⌜ FieldsOf word r ⌝ }
+{
+    Fields {
+        opcode: opcode_of(word),
+        a: a_of(word),
+        b: b_of(word),
+        c: c_of(word),
+        bx: bx_of(word),
+    }
+}
+
+// A decoded word: its fields, and what the table says of them.
+pub struct Instruction {
+    pub fields: Fields,
     pub row: Row,
 }
 
@@ -398,14 +390,7 @@ pub struct Instruction {
 pub fn decode(word: u32) -> Instruction
     ensures { λ r. ⌜ Decodes word r ⌝ }
 {
-    let opcode = opcode_of(word);
-    let row = row_of(opcode);
-    Instruction {
-        opcode,
-        a: a_of(word),
-        b: b_of(word),
-        c: c_of(word),
-        bx: bx_of(word),
-        row,
-    }
+    let fields = fields_of(word);
+    let row = row_of(fields.opcode);
+    Instruction { fields, row }
 }

@@ -1,29 +1,21 @@
 -- How long runs are: the registers of a run, and the open results of an accepted function, whose chain is short because A rises
--- from each user to its opener; and a line that its buffer holds whole. Assumes nothing.
+-- from each user to its opener. Assumes nothing.
 use Prim.Native.Nat.{ℕ, zero, suc, _+_, _-_, _*_, _≤_, _<_}
 use mathlib.Core.Bool.{Bool, true, false, cond}
 use mathlib.Core.Path.{_≡_, refl}
 use native.Mathlib.Omega.{arith}
 use lib.Dec.{eqb}
 use lib.ListN.{length, length-append}
-use lib.Seq.{take-all}
 use borrow.Author.Tests.{eqb-true, eqb-false, eq-eqb, ne-eqb}
 use Rattle.lua51_instruction.specs.Word.{VARARG, CALL, TAILCALL, numberOf, fieldOpcode, fieldA, fieldB}
 use Rattle.lua51_instruction.specs.Proto.{Proto, size, word, opcode, A, B}
 use Rattle.basics.proofs.Tests.{either-way, clash}
-use Rattle.ast.specs.Statement.{Stmt, register, call, vararg, registers, []ᵉ, expr, exprs, run}
+use Rattle.ast.specs.Statement.{register, call, vararg, registers, []ᵉ, expr, exprs}
 use Rattle.lua51_lifter.specs.Check.{check, fine, opener, user, slot}
 use Rattle.lua51_lifter.specs.Lift.{openResults}
 use Rattle.lua51_calls.specs.Calls.{resultsAlone}
-use Rattle.lua51_statements.specs.Lines.{lineWithin}
-use Rattle.lua51_lifter.specs.Listing.{statementLine}
 use Rattle.lua51_lifter.proofs.Accepted.{user-opener, user-slot}
 use Rattle.lua51_calls.proofs.Open.{open-vararg, open-closed, open-first, link-numbers}
-
--- a run that the buffer holds is printed whole
-pub line-fits : (room : ℕ) (s : Stmt) → length (run s) ≤ room → lineWithin room s ≡ statementLine s
-unfolding lineWithin statementLine
-line-fits room s h = rw (take-all room (run s) h)
 
 -- n registers are 2 n numbers
 pub registers-length : (r n : ℕ) → length (exprs (registers r n []ᵉ)) ≡ 2 * n

@@ -22,9 +22,10 @@ use Rattle.lua51_lifter.proofs.Accepted.{user-opener, opcode-known}
 use Rattle.basics.proofs.Range.{over-length, over-at}
 use Rattle.lua51_runs.proofs.Assigned.{set-numbers, assign-numbers, list-numbers}
 use Rattle.lua51_runs.proofs.Captured.{closure-numbers, first-capture}
+use Rattle.lua51_statements.proofs.Nils.{line-fits}
 use Rattle.lua51_statements.proofs.Pieces.{pieces-append}
 use Rattle.lua51_calls.proofs.Open.{taken-closed, taken-open, tail-numbers}
-use Rattle.lua51_lister.proofs.Fits.{line-fits, registers-length, open-length}
+use Rattle.lua51_lister.proofs.Fits.{registers-length, open-length}
 use Rattle.lua51_lifter.specs.Listing.{statementLine}
 
 -- the numbers of a buffer that holds every run

@@ -1,12 +1,12 @@
 // Refusal 9: the operands of a word, by the kinds in the table of opcodes.
 ghost use mathlib.Core.Path.{_≡_};
-ghost use mathlib.Core.Bool.{cond, _&&_};
+ghost use mathlib.Core.Bool.{cond, _&&_, _||_};
 ghost use mathlib.Core.List.{List};
-ghost use Prim.Native.Nat.{ℕ, _-_, _/_, _%_};
-ghost use lib.Dec.{ltb, eqb};
+ghost use Prim.Native.Nat.{ℕ, _+_, _-_, _/_, _%_};
+ghost use lib.Dec.{leb, ltb, eqb};
 ghost use lib.ListN.{length, getD};
 ghost use Rattle.lua51_value.specs.Value.{kind-string};
-ghost use Rattle.lua51_instruction.specs.Instruction.{kindMeant, Decodes};
+ghost use Rattle.lua51_instruction.specs.Instruction.{kindMeant, FieldsOf, Decodes};
 ghost use Rattle.lua51_instruction.specs.Proto.{Proto};
 ghost use Rattle.lua51_function.specs.Function.{Stands};
 ghost use Rattle.lua51_lifter.specs.Check.{operand, operandFault};
@@ -14,6 +14,7 @@ use basics::slices::byte_at;
 use lua51_function::function::Head;
 use lua51_instruction::argument::RegisterOrConstant;
 use lua51_instruction::argument::register_or_constant;
+use lua51_instruction::instruction::Fields;
 use lua51_instruction::instruction::Instruction;
 use lua51_instruction::instruction::Kind;
 use lua51_instruction::instruction::OPCODES;
@@ -79,23 +80,30 @@ fn names_global(constant: usize, kinds: &[u8]) -> bool
     (constant < kinds.len()) & (byte_at(kinds, constant) == KIND_STRING)
 }
 
-// Whether operand x of an instruction is inside, by its kind.
+// Whether n, one more than the count of the run that starts at R(a), is inside; 0 where it is open.
+fn values_fit(n: u16, a: u8, stack: u8) -> bool
+    ensures { λ r. ⌜ r ≡ leb n 1 || ltb (a + n - 2) stack ⌝ }
+{
+    let end = a as u32 + n as u32;
+    (n <= 1) | (end < stack as u32 + 2)
+}
+
+// Whether operand x of a word of some fields is inside, by its kind.
 fn operand_fits(
     kind: Kind,
     x: u16,
-    instruction: Instruction,
+    fields: Fields,
     head: Head,
     kinds: &[u8],
     nested: &[u32],
 ) -> bool
-    ensures { λ r. ⌜ ((p : Proto) (i : ℕ) (ws us : List ℕ) → Stands p head ws (now (kinds .entry)) (now (nested .entry)) us → Decodes (getD ws i 0) instruction → r ≡ operand p i (kindMeant kind) x) ⌝ }
+    ensures { λ r. ⌜ ((p : Proto) (i : ℕ) (ws us : List ℕ) → Stands p head ws (now (kinds .entry)) (now (nested .entry)) us → FieldsOf (getD ws i 0) fields → r ≡ operand p i (kindMeant kind) x) ⌝ }
 {
     let n = x as u32;
-    let a = instruction.a as u32;
-    let b = instruction.b as u32;
-    let bx = instruction.bx as usize;
+    let a = fields.a as u32;
+    let b = fields.b as u32;
+    let bx = fields.bx as usize;
     let stack = head.stack as u32;
-    let values = (n <= 1) | (a + n < stack + 2);
     match kind {
         Kind::Unused => true,
         Kind::Register => n < stack,
@@ -111,8 +119,10 @@ fn operand_fits(
         Kind::LastFromA => (a <= n) & (n < stack),
         Kind::LastFromB => (b < n) & (n < stack),
         Kind::Arguments => (n <= 1) | (a + n < stack + 1),
-        Kind::Values => values,
-        Kind::Varargs => is_vararg(head.flags) & !needs_arg(head.flags) & values,
+        Kind::Values => values_fit(x, fields.a, head.stack),
+        Kind::Varargs => is_vararg(head.flags)
+            & !needs_arg(head.flags)
+            & values_fit(x, fields.a, head.stack),
         Kind::Elements => a + n < stack,
         Kind::Variables => (0 < n) & (a + STATE_LAST + n < stack),
         Kind::BlockNumber => 0 < n,
@@ -123,20 +133,14 @@ fn operand_fits(
 pub fn operand_fault(instruction: Instruction, head: Head, kinds: &[u8], nested: &[u32]) -> bool
     ensures { λ r. ⌜ ((p : Proto) (i : ℕ) (ws us : List ℕ) → Stands p head ws (now (kinds .entry)) (now (nested .entry)) us → Decodes (getD ws i 0) instruction → r ≡ operandFault p i) ⌝ }
 {
+    let fields = instruction.fields;
     let row = instruction.row;
-    let known = (instruction.opcode as usize) < OPCODES;
+    let known = (fields.opcode as usize) < OPCODES;
     let kind_a = row.a;
     let kind_b = row.b;
     let kind_c = row.c;
     !(known
-        & operand_fits(
-            kind_a,
-            instruction.a as u16,
-            instruction,
-            head,
-            kinds,
-            nested,
-        )
-        & operand_fits(kind_b, instruction.b, instruction, head, kinds, nested)
-        & operand_fits(kind_c, instruction.c, instruction, head, kinds, nested))
+        & operand_fits(kind_a, fields.a as u16, fields, head, kinds, nested)
+        & operand_fits(kind_b, fields.b, fields, head, kinds, nested)
+        & operand_fits(kind_c, fields.c, fields, head, kinds, nested))
 }

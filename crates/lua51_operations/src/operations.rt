@@ -3,7 +3,7 @@ ghost use Prim.Native.Nat.{ℕ, _+_, _-_, _≤_};
 ghost use mathlib.Core.Path.{_≡_};
 ghost use Rattle.lua51_instruction.specs.Word.{opOf, numberOf, ADD, POW, CONCAT};
 ghost use Rattle.lua51_instruction.specs.Proto.{Proto, word};
-ghost use Rattle.lua51_instruction.specs.Instruction.{Decodes};
+ghost use Rattle.lua51_instruction.specs.Instruction.{FieldsOf};
 ghost use Rattle.ast.specs.Statement.{op-add};
 ghost use Rattle.ast.specs.Buffer.{buffer, adds, Writes};
 ghost use Rattle.lua51_lifter.specs.Lift.{statementsBy};
@@ -15,15 +15,15 @@ use ast::NOT;
 use ast::REGISTER;
 use ast::UNARY;
 use basics::numbers::minus;
-use lua51_instruction::instruction::Instruction;
+use lua51_instruction::instruction::Fields;
 use lua51_instruction::op;
 use lua51_runs::operands::binary_of;
 use lua51_runs::registers::push_concatenated;
 use lua51_runs::registers::set_register;
 
 // Writes the statement of CONCAT.
-fn concat(run: &mut [u32], w: Instruction) -> usize
-    ensures { λ r. ⌜ ((p : Proto) (i : ℕ) → Decodes (word p i) w
+fn concat(run: &mut [u32], w: Fields) -> usize
+    ensures { λ r. ⌜ ((p : Proto) (i : ℕ) → FieldsOf (word p i) w
         → buffer (now (run .exit)) r ≡ adds (buffer (now (run .entry)) 0) (runAt (statementsBy p i CONCAT) 0)) ⌝ }
     ensures anyway { λ r. ⌜ Writes (buffer (now (run .entry)) 0) (buffer (now (run .exit)) r) ⌝ }
 {
@@ -39,8 +39,8 @@ fn operator_of(opcode: u8) -> u32
 }
 
 // Writes the statement of an opcode from ADD to POW.
-fn arithmetic(run: &mut [u32], w: Instruction) -> usize
-    ensures { λ r. ⌜ ((p : Proto) (i : ℕ) → Decodes (word p i) w → numberOf ADD ≤ w .opcode → w .opcode ≤ numberOf POW
+fn arithmetic(run: &mut [u32], w: Fields) -> usize
+    ensures { λ r. ⌜ ((p : Proto) (i : ℕ) → FieldsOf (word p i) w → numberOf ADD ≤ w .opcode → w .opcode ≤ numberOf POW
         → buffer (now (run .exit)) r ≡ adds (buffer (now (run .entry)) 0) (runAt (statementsBy p i (opOf (w .opcode))) 0)) ⌝ }
     ensures anyway { λ r. ⌜ Writes (buffer (now (run .entry)) 0) (buffer (now (run .exit)) r) ⌝ }
 {
@@ -49,8 +49,8 @@ fn arithmetic(run: &mut [u32], w: Instruction) -> usize
 }
 
 // Writes the statement of an opcode from ADD to CONCAT. For any other word it writes some numbers.
-pub fn operation(run: &mut [u32], w: Instruction) -> usize
-    ensures { λ r. ⌜ ((p : Proto) (i : ℕ) → Decodes (word p i) w → numberOf ADD ≤ w .opcode → w .opcode ≤ numberOf CONCAT
+pub fn operation(run: &mut [u32], w: Fields) -> usize
+    ensures { λ r. ⌜ ((p : Proto) (i : ℕ) → FieldsOf (word p i) w → numberOf ADD ≤ w .opcode → w .opcode ≤ numberOf CONCAT
         → buffer (now (run .exit)) r ≡ adds (buffer (now (run .entry)) 0) (runAt (statementsBy p i (opOf (w .opcode))) 0)) ⌝ }
     ensures anyway { λ r. ⌜ Writes (buffer (now (run .entry)) 0) (buffer (now (run .exit)) r) ⌝ }
 {

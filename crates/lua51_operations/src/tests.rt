@@ -3,7 +3,7 @@ ghost use Prim.Native.Nat.{ℕ, _≤_};
 ghost use mathlib.Core.Path.{_≡_};
 ghost use Rattle.lua51_instruction.specs.Word.{opOf, numberOf, EQ, TESTSET};
 ghost use Rattle.lua51_instruction.specs.Proto.{Proto, word};
-ghost use Rattle.lua51_instruction.specs.Instruction.{Decodes};
+ghost use Rattle.lua51_instruction.specs.Instruction.{FieldsOf};
 ghost use Rattle.ast.specs.Statement.{register, binary, if-statement};
 ghost use Rattle.ast.specs.Statement as ast;
 ghost use Rattle.ast.specs.Buffer.{buffer, adds, Writes};
@@ -17,12 +17,12 @@ use ast::NOT;
 use ast::REGISTER;
 use ast::UNARY;
 use ast::push_all;
-use lua51_instruction::instruction::Instruction;
+use lua51_instruction::instruction::Fields;
 use lua51_instruction::op;
 use lua51_runs::operands::binary_of;
 
 // Writes 'if RK(B) operator RK(C)', under Not where A is 0.
-fn comparison(run: &mut [u32], w: Instruction, operator: u32) -> usize
+fn comparison(run: &mut [u32], w: Fields, operator: u32) -> usize
     ensures { λ r. ⌜ buffer (now (run .exit)) r
         ≡ adds (buffer (now (run .entry)) 0) (ast.run (if-statement (condition (w .a) (binary operator (rk (w .b)) (rk (w .c)))))) ⌝ }
 {
@@ -46,8 +46,8 @@ fn truth(run: &mut [u32], flag: u16, r: u32) -> usize
 }
 
 // Writes the statement of an opcode from EQ to TESTSET. For any other word it writes some numbers.
-pub fn test(run: &mut [u32], w: Instruction) -> usize
-    ensures { λ r. ⌜ ((p : Proto) (i : ℕ) → Decodes (word p i) w → numberOf EQ ≤ w .opcode → w .opcode ≤ numberOf TESTSET
+pub fn test(run: &mut [u32], w: Fields) -> usize
+    ensures { λ r. ⌜ ((p : Proto) (i : ℕ) → FieldsOf (word p i) w → numberOf EQ ≤ w .opcode → w .opcode ≤ numberOf TESTSET
         → buffer (now (run .exit)) r ≡ adds (buffer (now (run .entry)) 0) (runAt (statementsBy p i (opOf (w .opcode))) 0)) ⌝ }
     ensures anyway { λ r. ⌜ Writes (buffer (now (run .entry)) 0) (buffer (now (run .exit)) r) ⌝ }
 {

@@ -8,7 +8,8 @@ use crate::reach::Reach;
 use crate::reach::reach_of;
 use basics::slices::clear_bytes;
 use cfg::marks::put_mark;
-use lua51_instruction::instruction::decode;
+use lua51_instruction::instruction::flow_of;
+use lua51_instruction::instruction::opcode_of;
 
 // Marks the word that a word leads to.
 fn mark(marks: &mut [u8], reach: Reach)
@@ -27,9 +28,7 @@ pub fn mark_reached(words: &[u32], marks: &mut [u8])
     clear_bytes(marks);
     let mut i = 0;
     while i < words.len() {
-        let instruction = decode(words[i]);
-        let row = instruction.row;
-        let flow = row.flow;
+        let flow = flow_of(opcode_of(words[i]));
         mark(marks, reach_of(flow, words, i));
         i += 1;
     }

@@ -8,7 +8,7 @@ use ast::CONSTANT;
 use ast::REGISTER;
 use lua51_instruction::argument::RegisterOrConstant;
 use lua51_instruction::argument::register_or_constant;
-use lua51_instruction::instruction::Instruction;
+use lua51_instruction::instruction::Fields;
 
 // An expression of two numbers: its kind, and which of that kind.
 pub struct Leaf {
@@ -33,7 +33,7 @@ pub fn operand(x: u16) -> Leaf
 }
 
 // The numbers of 'RK(B) operator RK(C)'.
-pub fn binary_of(w: Instruction, operator: u32) -> [u32; 6]
+pub fn binary_of(w: Fields, operator: u32) -> [u32; 6]
     ensures { λ r. ⌜ expr (binary operator (rk (w .b)) (rk (w .c))) ≡ r ⌝ }
 {
     let first = operand(w.b);

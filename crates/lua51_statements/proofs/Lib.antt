@@ -1,3 +1,4 @@
 pub mod Counts
+pub mod Nils
 pub mod Pieces
 pub mod Standing

@@ -7,7 +7,7 @@ ghost use lib.ListN.{length};
 ghost use Rattle.lua51_instruction.specs.Word.{opOf, numberOf, CALL};
 ghost use Rattle.lua51_instruction.specs.Proto.{Proto};
 ghost use Rattle.lua51_instruction.specs.Proto as proto;
-ghost use Rattle.lua51_instruction.specs.Instruction.{Decodes};
+ghost use Rattle.lua51_instruction.specs.Instruction.{FieldsOf};
 ghost use Rattle.ast.specs.Buffer.{buffer, adds};
 ghost use Rattle.lua51_lifter.specs.Lift.{statementsBy};
 ghost use Rattle.lua51_runs.specs.Runs.{runAt};
@@ -23,11 +23,11 @@ use lua51_calls::calls::generic_loop;
 use lua51_calls::calls::return_values;
 use lua51_calls::calls::variable_arguments;
 use lua51_calls::lists::set_list;
-use lua51_instruction::instruction::Instruction;
+use lua51_instruction::instruction::Fields;
 use lua51_instruction::instruction::a_of;
 use lua51_instruction::instruction::b_of;
 use lua51_instruction::instruction::c_of;
-use lua51_instruction::instruction::decode;
+use lua51_instruction::instruction::fields_of;
 use lua51_instruction::instruction::opcode_of;
 use lua51_instruction::op;
 use lua51_operations::operations::operation;
@@ -73,11 +73,11 @@ fn from_call_on(
     nested: &[u32],
     nups: &[u8],
     i: usize,
-    w: Instruction,
+    w: Fields,
     k: u16,
 ) -> usize
     ensures { λ r. ⌜ ((p : Proto) → p .words ≡ now (words .entry) → p .nested ≡ now (nested .entry) → p .nups ≡ now (nups .entry)
-        → p .stack ≡ stack → Decodes (proto.word p i) w → numberOf CALL ≤ w .opcode → k < length (statementsBy p i (opOf (w .opcode)))
+        → p .stack ≡ stack → FieldsOf (proto.word p i) w → numberOf CALL ≤ w .opcode → k < length (statementsBy p i (opOf (w .opcode)))
         → buffer (now (run .exit)) r ≡ adds (buffer (now (run .entry)) 0) (runAt (statementsBy p i (opOf (w .opcode))) k)) ⌝ }
 {
     let a = w.a as u32;
@@ -110,7 +110,7 @@ pub fn statement(
         → p .stack ≡ stack → k < length (ownStatements p i)
         → buffer (now (run .exit)) r ≡ adds (buffer (now (run .entry)) 0) (runAt (ownStatements p i) k)) ⌝ }
 {
-    let w = decode(word_at(words, i));
+    let w = fields_of(word_at(words, i));
     let opcode = w.opcode;
     if opcode <= op::SELF {
         return assignment(run, w, k);

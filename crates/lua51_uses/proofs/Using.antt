@@ -7,7 +7,7 @@ use mathlib.Core.Path.{_≡_, refl, sym, ap, _∙_}
 use lib.Dec.{eqb, leb}
 use lib.ListN.{getD, length}
 use borrow.Author.Tests.{lt-ltb, eqb-true, eqb-false}
-use Rattle.basics.proofs.Tests.{or-left, or-right, not-not}
+use Rattle.basics.proofs.Tests.{or-left, or-right, not-not, not-is}
 use Rattle.lua51_instruction.proofs.Table.{word-beyond}
 use Rattle.cfg.proofs.Leaders.{end-leads}
 use Rattle.lua51_instruction.specs.Word.{RETURN, CLOSURE, TESTSET, numberOf, fieldOpcode}
@@ -24,30 +24,37 @@ use Rattle.lua51_uses.specs.Judgement.{checkWords, Surveyed}
 
 -- ------------------------------------------------------------ open results
 
-and-true : (b : Bool) → b ≡ b && true
-and-true true = refl
-and-true false = refl
-
 -- a word that was read is the function's
 pub word-read : (p : Proto) (ws : List ℕ) (i w : ℕ) → p .words ≡ ws → w ≡ getD ws i 0 → word p i ≡ w
 word-read p ws i w e h = rw e (sym h)
 
-module _ (p : Proto) (i : ℕ) where
-  -- word 0 has no word before it
-  pub first-missing : i ≡ 0 → user p i ≡ missing-results p i
-  unfolding missing-results
-  first-missing h = rw h (and-true (user p 0))
-
-  pub later-missing : {takes opens leads : Bool} {first kept : ℕ} → 0 < i → takes ≡ user p i → opens ≡ opener p (i - 1)
-      → leads ≡ leader p i → first ≡ slot p i → kept ≡ A p (i - 1)
-      → (takes && not (opens && not leads && leb first kept)) ≡ missing-results p i
-  unfolding missing-results
-  later-missing h t o l f k = rw (lt-ltb 0 i h) (λ j. t j && not (o j && not (l j) && leb (f j) (k j)))
-
-  pub results-left : {opens takes leads fits : Bool} → opens ≡ opener p i → takes ≡ user p (i + 1) → leads ≡ leader p (i + 1)
-      → fits ≡ matches p i → (opens && not (takes && not leads && fits)) ≡ unused-results p i
+module _ (p : Proto) (i : ℕ) {opens : Bool} (o : opens ≡ opener p i) where
+  -- a word that leaves no results open
+  pub none-left : not opens ≡ true → false ≡ unused-results p i
   unfolding unused-results
-  results-left o t l f = λ j. o j && not (t j && not (l j) && f j)
+  none-left h = rw (sym o ∙ not-is opens h)
+
+  pub results-left : {takes leads fits : Bool} → not opens ≡ false → takes ≡ user p (i + 1) → leads ≡ leader p (i + 1)
+      → fits ≡ matches p i → not (takes && not leads && fits) ≡ unused-results p i
+  unfolding unused-results
+  results-left h t l f = rw (sym o ∙ not-not opens h) (λ j. not (t j && not (l j) && f j))
+
+module _ (p : Proto) (i : ℕ) {takes : Bool} (t : takes ≡ user p i) where
+  -- a word that takes no open results
+  pub none-missing : not takes ≡ true → false ≡ missing-results p i
+  unfolding missing-results
+  none-missing h = rw (sym t ∙ not-is takes h)
+
+  -- word 0 has no word before it
+  pub first-missing : not takes ≡ false → i ≡ 0 → true ≡ missing-results p i
+  unfolding missing-results
+  first-missing h z = rw (sym t ∙ not-not takes h, z)
+
+  pub later-missing : {opens leads : Bool} {first kept : ℕ} → not takes ≡ false → 0 < i → opens ≡ opener p (i - 1)
+      → leads ≡ leader p i → first ≡ slot p i → kept ≡ A p (i - 1)
+      → not (opens && not leads && leb first kept) ≡ missing-results p i
+  unfolding missing-results
+  later-missing h z o l f k = rw (sym t ∙ not-not takes h, lt-ltb 0 i z) (λ j. not (o j && not (l j) && leb (f j) (k j)))
 
 -- ------------------------------------------------------------ the verdict on a word among the others
 

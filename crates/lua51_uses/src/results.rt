@@ -29,8 +29,11 @@ pub fn results_unused(words: &[u32], leaders: &[u8], i: usize) -> bool
     ensures { λ r. ⌜ ((p : Proto) → p .words ≡ now (words .entry) → Marked (leader p) (size p) (now (leaders .entry)) → r ≡ unused-results p i) ⌝ }
 {
     let word = word_at(words, i);
+    if !opens(word) {
+        return false;
+    }
     let next = word_at(words, i + 1);
-    opens(word) & !(takes(next) & !marked(leaders, i + 1) & suits(word, next))
+    !(takes(next) & !marked(leaders, i + 1) & suits(word, next))
 }
 
 // Whether word i takes open results that the word before it, in the same range, does not leave from its first slot on.
@@ -39,11 +42,14 @@ pub fn results_missing(words: &[u32], leaders: &[u8], i: usize) -> bool
     ensures { λ r. ⌜ ((p : Proto) → p .words ≡ now (words .entry) → Marked (leader p) (size p) (now (leaders .entry)) → r ≡ missing-results p i) ⌝ }
 {
     let word = word_at(words, i);
+    if !takes(word) {
+        return false;
+    }
     if i == 0 {
-        return takes(word);
+        return true;
     }
     let before = word_at(words, i - 1);
-    takes(word) & !(opens(before) & !marked(leaders, i) & (first_slot(word) <= a_of(before) as u32))
+    !(opens(before) & !marked(leaders, i) & (first_slot(word) <= a_of(before) as u32))
 }
 
 // ------------------------------------------------------------ 13: captures

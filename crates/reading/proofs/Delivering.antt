@@ -1,18 +1,19 @@
 -- Laws of delivering: what a delivery is in each case, and how the code comes to it. Assumes nothing.
 use Prim.Native.Nat.{ℕ, _+_, _≤_, _<_, min}
 use native.Mathlib.Omega.{arith}
-use mathlib.Core.Bool.{true, false}
+use mathlib.Core.Bool.{Bool, true, false}
 use mathlib.Core.Path.{_≡_, sym, _∙_, ap}
-use mathlib.Core.List.{List, []}
+use mathlib.Core.List.{List}
+use lib.Dec.{leb}
 use lib.ListN.{length}
-use borrow.Author.Tests.{lt-ltb, le-ltb, lt-leb, le-leb}
-use Rattle.lines.specs.Out.{Out, output, largest-usize, puts}
-use Rattle.lines.proofs.Puts.{puts-fit, puts-empty}
-use Rattle.lua51_deserializer.specs.Chunk.{here, walked, walk, protoAt, constantsAt, most-functions}
-use Rattle.lua51_deserializer.specs.Walked.{placesOf}
+use borrow.Author.Tests.{lt-ltb, le-ltb, lt-leb, le-leb, leb-true}
+use Rattle.lines.specs.Out.{Out, output, largest-usize}
+use Rattle.lines.proofs.Puts.{puts-at, puts-fit}
+use Rattle.basics.proofs.Tests.{either-way}
+use Rattle.lua51_deserializer.specs.Chunk.{most-functions}
 use Rattle.lua51_deserializer.specs.declared.chunk.Functions.{Functions}
-use Rattle.lua51_lifter.specs.Check.{fine, check}
-use Rattle.lua51_lifter.specs.Listing.{listing}
+use Rattle.block_lines.specs.Lines.{run-numbers}
+use Rattle.listing.specs.Printed.{printed, Lists}
 use Rattle.judging.specs.Judge.{Answer, given, refusal, judge, listingOf}
 use Rattle.judging.specs.Refusal.{refusalOf}
 use Rattle.judging.specs.Answers.{answerOf, Whole}
@@ -52,24 +53,22 @@ module _ (r : Reading) (s out : List ℕ) where
   unfolding delivery deliveredBy
   next-written n opened j below = rw (opened, j, lt-ltb)
 
--- ------------------------------------------------------------ counted first, then written
+-- ------------------------------------------------------------ the whole listing, or nothing
 
--- what an empty output counts
-pub count-of : (none bytes : List ℕ) (n : ℕ) → output none n ≡ puts (output [] 0) bytes → n ≡ min (length bytes) largest-usize
-count-of none bytes n h = ap (λ (o : Out). o .at) (h ∙ puts-empty 0 bytes (omega arith)) ∙ omega arith
+-- bytes were printed where the whole of them fits: n were counted, and out′ is left
+module _ (bytes out out′ : List ℕ) (n : ℕ) (e : output out′ n ≡ printed true out bytes) (few : length out ≤ largest-usize) where
+  pub whole-counted : n ≡ min (length bytes) largest-usize
+  whole-counted = either-way (leb (length bytes) (length out))
+      (λ fits. ap (λ (o : Out). o .at) (rw fits at e) ∙ puts-at (output out 0) bytes (omega arith) ∙ omega arith)
+      (λ short. ap (λ (o : Out). o .at) (rw short at e))
 
--- where it counted n
+  pub whole-left : out′ ≡ whereItFits bytes out
+  whole-left = either-way (leb (length bytes) (length out))
+      (λ fits. rw fits (ap (λ (o : Out). o .bytes) (rw fits at e ∙ puts-fit out bytes (leb-true (length bytes) (length out) fits) (omega (arith, leb-true (length bytes) (length out) fits)))))
+      (λ short. rw short (ap (λ (o : Out). o .bytes) (rw short at e)))
+
+-- where n were counted
 module _ (bytes out : List ℕ) (n : ℕ) (counted : n ≡ min (length bytes) largest-usize) where
-  pub stays-as-it-was : length out < n → out ≡ whereItFits bytes out
-  stays-as-it-was short = let h : length out < length bytes = omega arith in rw (lt-leb (length bytes) (length out) h)
-
-  -- and what was then printed into the output left out′
-  pub printed-whole : (out′ : List ℕ) (at : ℕ) → n ≤ length out → length out < largest-usize
-      → output out′ at ≡ puts (output out 0) bytes → out′ ≡ whereItFits bytes out
-  printed-whole out′ at roomy few h =
-      let fits : length bytes ≤ length out = omega arith in
-      ap (λ (o : Out). o .bytes) (h ∙ puts-fit out bytes fits (omega arith)) ∙ rw (le-leb (length bytes) (length out) fits)
-
   module _ (r : Reading) (out′ : List ℕ) (left : out′ ≡ whereItFits bytes out) where
     pub short-by-count : length out < n → unchanged r out′ (refusal 33 (r .next) 0) ≡ written r bytes out
     unfolding written
@@ -103,14 +102,11 @@ module _ (s : List ℕ) (functions : Functions) (f : ℕ) (next : Next s functio
   pub next-few : f < most-functions
   next-few = omega (arith, next-below, few-functions whole)
 
-  -- a printer of accepted functions prints its listing
-  pub next-listed : (o o′ : Out)
-      → ((end : ℕ) → walked (here end) (placesOf functions) ≡ walk s → f < functions .count
-      → check (protoAt s (walk s .places) f) ≡ fine
-      → o′ ≡ puts o (listing (protoAt s (walk s .places) f) (constantsAt s (walk s .places) f)))
-      → o′ ≡ puts o (listingOf s f)
+  -- what is printed of it is its listing
+  pub next-listed : {w : Bool} {run out out′ : List ℕ} {r : ℕ} → Lists s functions f w run out out′ r → run-numbers ≤ length run
+      → output out′ r ≡ printed w out (listingOf s f)
   unfolding listingOf
-  next-listed o o′ prints = prints (whole .end) (whole .walk) next-below (accepted s (next .count) f (next .judged) (next .below))
+  next-listed l runs = l .listed (whole .end) (whole .walk) next-below (accepted s (next .count) f (next .judged) (next .below)) runs
 
 -- ------------------------------------------------------------ demand 3
 

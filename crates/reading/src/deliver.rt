@@ -5,6 +5,7 @@ use judging::refusal::Refusal;
 use judging::walk_and_judge;
 use listing::function::put_function;
 use lua51_deserializer::chunk::Functions;
+use lua51_lister::RUN_NUMBERS;
 ghost use mathlib.Core.Path.{_≡_};
 ghost use mathlib.Core.List.{List};
 ghost use Prim.Native.Nat.{ℕ, min};
@@ -33,19 +34,14 @@ fn refused(reading: Reading, refusal: Refusal) -> Delivered
     }
 }
 
-// Writes the listing of function f from the output's start, where the output is long enough, and gives its length in any case. The
-// listing is first printed into an empty output, which only counts it.
+// Writes the listing of function f from the output's start, where the output is long enough, and gives its length in any case.
 fn write_whole(s: &[u8], functions: Functions, f: u32, out: &mut [u8]) -> usize
     requires { ⌜ Next (now s) functions f ⌝ }
     ensures { λ r. ⌜ r ≡ min (length (listingOf (now (s .entry)) f)) largest-usize ⌝ }
     ensures { λ _. ⌜ now (out .exit) ≡ whereItFits (listingOf (now (s .entry)) f) (now (out .entry)) ⌝ }
 {
-    let mut none = [0u8; 0];
-    let length = put_function(&mut none, 0, s, functions, f);
-    if length <= out.len() {
-        put_function(out, 0, s, functions, f);
-    }
-    length
+    let mut run = [0u32; RUN_NUMBERS];
+    put_function(out, s, functions, f, true, &mut run)
 }
 
 // Writes the listing of the next function and moves on by one, or refuses an output that is shorter than it.

@@ -1,7 +1,8 @@
 -- `check_function`: the buffers hold the function whole, and so what is checked is the definition's function. Assumes nothing.
-use Prim.Native.Nat.{_≤_}
+use Prim.Native.Nat.{_+_, _≤_}
 use mathlib.Core.Path.{sym}
 use native.Mathlib.Omega.{arith}
+use lib.ListN.{length}
 use lib.Seq.{length-take-le}
 use Rattle.lua51_deserializer.specs.Chunk.{most-words}
 use Rattle.judging.proofs.Judging.{holds-function, stands-function}
@@ -13,12 +14,21 @@ use Rattle.judging.proofs.check_function.Lts as lts
 use Rattle.lua51_function.proofs.function.function_at.Reads as function-at-reads
 use Rattle.lua51_checker.proofs.check.check.Reads as check-reads
 
--- no function has more words than the buffers hold
-few-words : (d : lts.After-function-at (function-at-reads.Asked, function-at-reads.Learnt, check-reads.Asked, check-reads.Learnt) reads.Pre reads.Post) → d .function-at .result .words ≤ most-words
-few-words d =
-    let a = d .before .before .before .before .before .before .before .before .before .before .before .before in
-    let h = holds-function (a .pre) (d .function-at .ensures) in
-    omega arith
+-- the function that was loaded
+module _ (d : lts.After-function-at (function-at-reads.Asked, function-at-reads.Learnt, check-reads.Asked, check-reads.Learnt) reads.Pre reads.Post) where
+  -- it has few words
+  few-words : d .function-at .result .words ≤ most-words
+  few-words =
+      let a = d .before .before .before .before .before .before .before .before .before .before .before .before in
+      let h = holds-function (a .pre .0) (a .pre .1 .0) (a .pre .1 .1) (d .function-at .ensures) in
+      omega arith
+
+  -- and what is lent has room for their marks
+  marks-fit : (d .function-at .result .words + 1 ≤ length (d .before .before .before .before .before .before .before .before .before .before .before .before .args .leaders .now)) × (d .function-at .result .words + 1 ≤ length (d .before .before .before .before .before .before .before .before .before .before .before .before .args .targets .now))
+  marks-fit =
+      let a = d .before .before .before .before .before .before .before .before .before .before .before .before in
+      let h = holds-function (a .pre .0) (a .pre .1 .0) (a .pre .1 .1) (d .function-at .ensures) in
+      (omega (arith, h .words, a .pre .1 .1 .leaders), omega (arith, h .words, a .pre .1 .1 .targets))
 
 function-at-requires : tie.Need-function-at-requires
 function-at-requires c κs = search needs
@@ -51,13 +61,13 @@ slice-aggregate-check-4 : tie.Need-slice-aggregate-check-4
 slice-aggregate-check-4 c = search needs
 
 slice-relend-prefix-check : tie.Need-slice-relend-prefix-check
-slice-relend-prefix-check c = omega (arith, few-words (c .before .before .before .before .before .before .before .before .before .before .before .before), c .before .before .before .before .before .before .before .before .before .before .before .before .before .before .before .before .before .before .before .before .before .before .before .before .pre .leaders)
+slice-relend-prefix-check c = marks-fit (c .before .before .before .before .before .before .before .before .before .before .before .before) .0
 
 slice-aggregate-check-5 : tie.Need-slice-aggregate-check-5
 slice-aggregate-check-5 c = sym (length-take-le _ _ (slice-relend-prefix-check (c .before)))
 
 slice-relend-prefix-check-2 : tie.Need-slice-relend-prefix-check-2
-slice-relend-prefix-check-2 c = omega (arith, few-words (c .before .before .before .before .before .before .before .before .before .before .before .before .before), c .before .before .before .before .before .before .before .before .before .before .before .before .before .before .before .before .before .before .before .before .before .before .before .before .before .pre .targets)
+slice-relend-prefix-check-2 c = marks-fit (c .before .before .before .before .before .before .before .before .before .before .before .before .before) .1
 
 slice-aggregate-check-6 : tie.Need-slice-aggregate-check-6
 slice-aggregate-check-6 c = sym (length-take-le _ _ (slice-relend-prefix-check-2 (c .before)))
@@ -88,8 +98,8 @@ returns c =
     let k = c .before .before .before .before in
     let d = k .before .before .before .before .before .before .before .before .before .before .before .before .before .before .before in
     let a = d .before .before .before .before .before .before .before .before .before .before .before .before in
-    let h = holds-function (a .pre) (d .function-at .ensures) in
-    k .check .ensures .0 _ (stands-function (a .pre) (d .function-at .ensures))
+    let h = holds-function (a .pre .0) (a .pre .1 .0) (a .pre .1 .1) (d .function-at .ensures) in
+    k .check .ensures .0 _ (stands-function (a .pre .0) (a .pre .1 .0) (a .pre .1 .1) (d .function-at .ensures))
     (omega (arith, slice-aggregate-check-5 (k .before .before)))
     (omega (arith, slice-aggregate-check-6 (k .before)))
 

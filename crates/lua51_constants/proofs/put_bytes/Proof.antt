@@ -22,14 +22,11 @@ abbrev μ-loop : tie.MeasureT-loop
 loop-holds : tie.Need-loop-holds Inv-loop μ-loop
 loop-holds c = search needs
 
-shared-slice-read-wide : tie.Need-shared-slice-read-wide Inv-loop μ-loop
-shared-slice-read-wide c = search needs
+shared-slice-read-put-small : tie.Need-shared-slice-read-put-small Inv-loop μ-loop
+shared-slice-read-put-small c = search needs
 
-wide-requires : tie.Need-wide-requires Inv-loop μ-loop
-wide-requires c κs = search needs
-
-put-number-requires : tie.Need-put-number-requires Inv-loop μ-loop
-put-number-requires c κs = search needs
+put-small-requires : tie.Need-put-small-requires Inv-loop μ-loop
+put-small-requires c κs = search needs
 
 add-i : tie.Need-add-i Inv-loop μ-loop
 add-i c = search needs
@@ -40,11 +37,10 @@ loop-less c = search needs
 loop-again : tie.Need-loop-again Inv-loop μ-loop
 loop-again c =
     let printed = c .before .before in
-    let byte = printed .before in
-    let l = byte .before .before .before .before in
+    let l = printed .before .before .before .before in
     let bytes = l .before .before .before .args .bytes .now in
     let turn = puts-turn column (output (l .loop .out) (l .loop .next)) bytes (l .loop .i) (search needs) in
-    (search needs, search needs, rw (printed .put-number .ensures, byte .wide .ensures .0) (l .loop .inv .2 ∙ turn))
+    (search needs, search needs, rw (printed .put-small .ensures) (l .loop .inv .2 ∙ turn))
 
 same-length : tie.Need-same-length Inv-loop μ-loop
 same-length c = search needs
@@ -62,9 +58,8 @@ put-bytes-spec =
     Inv-loop
     μ-loop
     loop-holds
-    shared-slice-read-wide
-    wide-requires
-    put-number-requires
+    shared-slice-read-put-small
+    put-small-requires
     add-i
     loop-less
     loop-again

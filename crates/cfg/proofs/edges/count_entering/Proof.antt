@@ -1,5 +1,5 @@
 -- `edges::count_entering`: after i words the counts are those of their edges and the entry's. Assumes nothing.
-use Prim.Native.Nat.{ℕ, _+_, _*_, _<_, _≤_, _-_}
+use Prim.Native.Nat.{ℕ, _+_, _<_, _≤_, _-_, min}
 use native.Mathlib.Omega.{arith}
 use mathlib.Core.Path.{_≡_, refl, _∙_}
 use lib.Dec.{eqb}
@@ -7,28 +7,24 @@ use lib.ListN.{length, getD}
 use borrow.Author.Needs.{needs}
 use Rattle.basics.specs.Range.{sum}
 use Rattle.lua51_instruction.specs.Proto.{Proto, size}
-use Rattle.cfg.specs.Arrays.{bit, targets, exitsBy, enteringBy}
+use Rattle.cfg.specs.Arrays.{bit, more, targets, exitsBy, enteringBy}
 use Rattle.basics.proofs.Tables.{tabled}
-use Rattle.cfg.proofs.Counts.{none-at, entry-at, entry-most, entered-most, few, counts-turn, counts-none}
+use Rattle.cfg.proofs.Counts.{entry-at, counts-turn, counts-none}
 use Rattle.cfg.proofs.edges.count_entering.Statement.{statement}
 use Rattle.cfg.proofs.edges.count_entering.Tie as tie
 
 abbrev Inv-loop : tie.InvT-loop
 Inv-loop words marks counts₀ i₀ counts i =
-    (i ≤ length words) × (length counts ≡ length counts₀) × ((t : ℕ) → getD counts t 0 ≤ 2 * i + 1) × ((p : Proto) → p .words ≡ words → (t : ℕ) → t < length counts → getD counts t 0 ≡ bit (eqb t 0) + sum (exitsBy p marks t) 0 i)
+    (i ≤ length words) × (length counts ≡ length counts₀) × ((p : Proto) → p .words ≡ words → (t : ℕ) → t < length counts → getD counts t 0 ≡ min (bit (eqb t 0) + sum (exitsBy p marks t) 0 i) more)
 
 abbrev μ-loop : tie.MeasureT-loop
 μ-loop words marks counts₀ i₀ counts i = length words - i
 
-clear-numbers-requires : tie.Need-clear-numbers-requires Inv-loop μ-loop
-clear-numbers-requires c κs = search needs
+clear-bytes-requires : tie.Need-clear-bytes-requires Inv-loop μ-loop
+clear-bytes-requires c κs = search needs
 
 enter-requires : tie.Need-enter-requires Inv-loop μ-loop
-enter-requires c κs =
-    let cleared = c .before .before .before in
-    let n = length (cleared .before .before .before .before .before .args .counts .now) in
-    let z : getD (cleared .clear-numbers .last .0) 0 0 ≡ 0 = rw (cleared .clear-numbers .ensures) (none-at n 0) in
-    omega arith
+enter-requires c κs = search needs
 
 loop-holds : tie.Need-loop-holds Inv-loop μ-loop
 loop-holds c =
@@ -36,21 +32,17 @@ loop-holds c =
     let cleared = put .before .before .before .before in
     let a = cleared .before .before .before .before .before .args in
     let n = length (a .counts .now) in
-    let first = entry-at n (cleared .clear-numbers .last .0) (put .enter .last .0) (cleared .clear-numbers .ensures) (put .enter .ensures) in (
+    let first = entry-at n (cleared .clear-bytes .last .0) (put .enter .last .0) (cleared .clear-bytes .ensures) (put .enter .ensures) in (
       omega arith,
       refl,
-      entry-most n (cleared .clear-numbers .last .0) (put .enter .last .0) (cleared .clear-numbers .ensures) (put .enter .ensures),
-      λ p e t lt. first t (omega (arith, put .enter .kept .0, cleared .clear-numbers .kept .0)) ∙ counts-none p (a .marks .now) t,
+      λ p e t lt. first t (omega (arith, put .enter .kept .0, cleared .clear-bytes .kept .0)) ∙ counts-none p (a .marks .now) t,
     )
 
 exits-at-requires : tie.Need-exits-at-requires Inv-loop μ-loop
 exits-at-requires c κs = search needs
 
 enter-all-requires : tie.Need-enter-all-requires Inv-loop μ-loop
-enter-all-requires c κs =
-    let at = c .before .before in
-    let s = at .before .before .before .before .before .before .before .before .before .before .before .before .before in
-    λ t. omega (arith, at .before .loop .inv .2 t, s .good .0 .1)
+enter-all-requires c κs = search needs
 
 add-i : tie.Need-add-i Inv-loop μ-loop
 add-i c = omega arith
@@ -67,24 +59,23 @@ loop-again c =
     let es = put .before .exits-at .result in (
       omega arith,
       put .enter-all .kept .0 ∙ l .inv .1,
-      λ t. rw (put .enter-all .ensures) (omega (arith, entered-most (targets es) (l .counts) t, few es t, l .inv .2 t)),
       λ p e t lt.
           let inside : t < length (l .counts) = omega (arith, put .enter-all .kept .0) in
-          rw (put .enter-all .ensures) (counts-turn p marks (l .i) t (targets es) (l .counts) inside (put .before .exits-at .ensures p e t) (l .inv .3 p e t inside)),
+          rw (put .enter-all .ensures) (counts-turn p marks (l .i) t (targets es) (l .counts) inside (put .before .exits-at .ensures p e t) (l .inv .2 p e t inside)),
     )
 
 same-length : tie.Need-same-length Inv-loop μ-loop
 same-length c =
     let put = c .before .before .before .before in
-    c .before .loop .inv .1 ∙ (put .enter .kept .0 ∙ put .before .before .before .before .clear-numbers .kept .0)
+    c .before .loop .inv .1 ∙ (put .enter .kept .0 ∙ put .before .before .before .before .clear-bytes .kept .0)
 
 returns : tie.Need-returns Inv-loop μ-loop
 returns c =
     let l = c .before .loop in
     let a = c .before .before .before .before .before .before .before .before .before .before .before .before .before .args in
-    λ p e. tabled (enteringBy p (a .marks .now)) (l .counts) (length (a .counts .now)) (same-length c) (λ t lt.
+    λ p e. tabled (λ t. min (enteringBy p (a .marks .now) t) more) (l .counts) (length (a .counts .now)) (same-length c) (λ t lt.
     let all : l .i ≡ size p = rw e (omega arith) in
-    rw all at (l .inv .3 p e t lt))
+    rw all at (l .inv .2 p e t lt))
 
 pub count-entering-spec : {M : Type 1} → statement M
 count-entering-spec =
@@ -92,7 +83,7 @@ count-entering-spec =
     (tie.spec
     Inv-loop
     μ-loop
-    clear-numbers-requires
+    clear-bytes-requires
     enter-requires
     loop-holds
     exits-at-requires

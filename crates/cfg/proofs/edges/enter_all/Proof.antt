@@ -1,7 +1,5 @@
 -- `edges::enter_all`: one edge after another. Assumes nothing.
-use native.Mathlib.Omega.{arith}
 use Rattle.cfg.specs.Arrays.{entered}
-use Rattle.cfg.proofs.Counts.{put-most}
 use borrow.Author.Needs.{needs}
 use Rattle.cfg.proofs.edges.enter_all.Statement.{statement}
 use Rattle.cfg.proofs.edges.enter_all.Tie as tie
@@ -13,20 +11,16 @@ enum-known-edges : tie.Need-enum-known-edges
 enum-known-edges c = search needs
 
 enter-requires : tie.Need-enter-requires
-enter-requires c κs = omega (arith, c .before .before .before .before .before .pre (c .before .before .edges .given .0 .0 .to))
+enter-requires c κs = search needs
 
 enum-known-edges-2 : tie.Need-enum-known-edges-2
 enum-known-edges-2 c = search needs
 
 enter-requires-2 : tie.Need-enter-requires-2
-enter-requires-2 c κs = omega (arith, c .before .before .before .before .before .pre (c .before .before .edges2 .given .0 .0 .to))
+enter-requires-2 c κs = search needs
 
 enter-requires-3 : tie.Need-enter-requires-3
-enter-requires-3 c κs =
-    let first = c .before .before .before in
-    let s = first .before .before .before .before .before .before in
-    let e = first .before .before .before .edges2 .given .0 in
-    rw (first .enter2 .ensures) (omega (arith, put-most (s .args .counts .now) (e .0 .to) (e .1 .0 .to), s .pre (e .1 .0 .to)))
+enter-requires-3 c κs = search needs
 
 returns : tie.Need-returns
 unfolding entered

@@ -33,7 +33,7 @@ slice-aggregate-note-starts c = sym (length-take-le _ _ (slice-relend-prefix-not
 note-starts-requires : tie.Need-note-starts-requires
 note-starts-requires c κs =
     let marks = c .before .before .before .before .before .before .before .before .before in
-    omega (arith, slice-aggregate-note-starts c, marks .mark-leaders .kept .1 .0, marks .before .before .before .before .before .before .pre .0)
+    omega (arith, slice-aggregate-note-starts c, marks .mark-leaders .kept .1 .0, marks .before .before .before .before .before .before .pre .1 .0)
 
 mul-note-betweens : tie.Need-mul-note-betweens
 mul-note-betweens c = search needs
@@ -51,9 +51,9 @@ note-betweens-requires : tie.Need-note-betweens-requires
 note-betweens-requires c κs =
     let arg = c .before in
     let starts = arg .before .before .before in
-    let a = starts .before .before .before .before .before .before .before .before .before .before .before .before .before .before .before .before .args in
-    let m = length (a .words .now) + 1 in
-    omega (arith, mid-len m (m + m) (starts .note-starts .last .1 .0 ++ drop m (a .notes .now)) (part-note-betweens-end arg), slice-aggregate-note-starts (starts .before), starts .note-starts .ensures .1)
+    let s = starts .before .before .before .before .before .before .before .before .before .before .before .before .before .before .before .before in
+    let m = length (s .args .words .now) + 1 in
+    omega (arith, mid-len m (m + m) (starts .note-starts .last .1 .0 ++ drop m (s .args .notes .now)) (part-note-betweens-end arg), slice-aggregate-note-starts (starts .before), starts .note-starts .ensures .1, s .pre .0)
 
 mul-note-fronts : tie.Need-mul-note-fronts
 mul-note-fronts c = search needs
@@ -90,10 +90,10 @@ returns c =
     let a = s .args in
     λ p e.
     let past : length (a .words .now) + 1 ≡ size p + 1 = rw e in
-    let leaders = marks-whole p _ (length (a .marks .now)) (marks .mark-leaders .ensures p e) (omega (arith, s .pre .0)) in
-    let counts = counts-whole p _ _ (length (a .counts .now)) leaders (entering .count-entering .ensures p e) (omega (arith, s .pre .1 .0)) in
+    let leaders = marks-whole p _ (length (a .marks .now)) (marks .mark-leaders .ensures p e) (omega (arith, s .pre .1 .0)) in
+    let counts = counts-whole p _ _ (length (a .counts .now)) leaders (entering .count-entering .ensures p e) (omega (arith, s .pre .1 .1 .0)) in
     let started = starts .note-starts .ensures .0 p leaders in
-    notes-whole p (a .notes .now) _ _ _ (length (a .words .now) + 1) past (s .pre .1 .1) (started .0)
+    notes-whole p (a .notes .now) _ _ _ (length (a .words .now) + 1) past (s .pre .1 .1 .1) (started .0)
     (betweens .note-betweens .ensures p e counts (started .1)) (fronts .note-fronts .ensures p e counts)
 
 pub fill-spec : {M : Type 1} → statement M

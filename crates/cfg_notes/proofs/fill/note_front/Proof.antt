@@ -27,7 +27,7 @@ stored c p e k =
     let other = c .before in
     let s = other .before .before .before .before .before in
     let y : fronted p (s .args .i) ≡ true = sym (other .before .is-fronted .ensures p e k) ∙ not-not (other .before .is-fronted .result) (other .if1 .left) in
-    rw (y, c .then-of .ensures p e, lt-ltb (s .args .i) (size p) (rw e (s .pre)))
+    rw (y, c .then-of .ensures p e, lt-ltb (s .args .i) (size p) (rw e (s .pre .1)))
 
 is-fronted-requires : tie.Need-is-fronted-requires
 is-fronted-requires c κs = search needs
@@ -40,6 +40,9 @@ then-of-requires c κs = search needs
 
 add-fronts : tie.Need-add-fronts
 add-fronts c = search needs
+
+cast-fronts : tie.Need-cast-fronts
+cast-fronts c = search needs
 
 mul-fronts : tie.Need-mul-fronts
 mul-fronts c = search needs
@@ -66,6 +69,7 @@ note-front-spec =
     returns
     then-of-requires
     add-fronts
+    cast-fronts
     mul-fronts
     slice-write-fronts
     same-length

@@ -20,8 +20,8 @@ Inv-loop words counts fronts₀ i₀ fronts i =
 abbrev μ-loop : tie.MeasureT-loop
 μ-loop words counts fronts₀ i₀ fronts i = length words - i
 
-clear-numbers-requires : tie.Need-clear-numbers-requires Inv-loop μ-loop
-clear-numbers-requires c κs = search needs
+clear-shorts-requires : tie.Need-clear-shorts-requires Inv-loop μ-loop
+clear-shorts-requires c κs = search needs
 
 loop-holds : tie.Need-loop-holds Inv-loop μ-loop
 loop-holds c =
@@ -29,7 +29,7 @@ loop-holds c =
     let n = length (cleared .before .before .before .before .before .args .fronts .now) in (
       omega arith,
       refl,
-      λ p e k t lt. rw (cleared .clear-numbers .ensures) (table-at (λ _. 0) n t (omega (arith, cleared .clear-numbers .kept .0)) ∙ sym (front-first p t)),
+      λ p e k t lt. rw (cleared .clear-shorts .ensures) (table-at (λ _. 0) n t (omega (arith, cleared .clear-shorts .kept .0)) ∙ sym (front-first p t)),
     )
 
 note-front-requires : tie.Need-note-front-requires Inv-loop μ-loop
@@ -53,7 +53,7 @@ loop-again c =
     )
 
 same-length : tie.Need-same-length Inv-loop μ-loop
-same-length c = c .before .loop .inv .1 ∙ c .before .before .before .before .clear-numbers .kept .0
+same-length c = c .before .loop .inv .1 ∙ c .before .before .before .before .clear-shorts .kept .0
 
 returns : tie.Need-returns Inv-loop μ-loop
 returns c =
@@ -69,7 +69,7 @@ note-fronts-spec =
     (tie.spec
     Inv-loop
     μ-loop
-    clear-numbers-requires
+    clear-shorts-requires
     loop-holds
     note-front-requires
     add-i

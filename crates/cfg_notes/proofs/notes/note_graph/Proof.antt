@@ -1,7 +1,6 @@
 -- `notes::note_graph`: filled, where there is room. Assumes nothing.
 use native.Mathlib.Omega.{arith}
-use mathlib.Core.Path.{refl, _∙_, sym}
-use lib.Seq.{length-take-le}
+use mathlib.Core.Path.{refl, _∙_}
 use borrow.Author.Needs.{needs}
 use Rattle.cfg_notes.proofs.notes.note_graph.Statement.{statement}
 use Rattle.cfg_notes.proofs.notes.note_graph.Tie as tie
@@ -9,8 +8,8 @@ use Rattle.cfg_notes.proofs.notes.note_graph.Tie as tie
 returns : tie.Need-returns
 returns c = (λ p e few room. absurd (omega (arith, rw e at few, c .if1 .taken)), refl)
 
-add-past : tie.Need-add-past
-add-past c = search needs
+add-if2 : tie.Need-add-if2
+add-if2 c = search needs
 
 mul-if2 : tie.Need-mul-if2
 mul-if2 c = search needs
@@ -18,41 +17,35 @@ mul-if2 c = search needs
 returns-2 : tie.Need-returns-2
 returns-2 c = (λ p e few room. absurd (c .if2 .taken (room ∙ rw e)), refl)
 
-array-borrow-prefix-marks : tie.Need-array-borrow-prefix-marks
-array-borrow-prefix-marks c = search needs
-
-slice-aggregate-fill : tie.Need-slice-aggregate-fill
-slice-aggregate-fill c = sym (length-take-le _ _ (array-borrow-prefix-marks (c .before)))
-
-array-borrow-prefix-counts : tie.Need-array-borrow-prefix-counts
-array-borrow-prefix-counts c = search needs
-
-slice-aggregate-fill-2 : tie.Need-slice-aggregate-fill-2
-slice-aggregate-fill-2 c = sym (length-take-le _ _ (array-borrow-prefix-counts (c .before)))
-
-fill-requires : tie.Need-fill-requires
-fill-requires c κs = (sym (slice-aggregate-fill (c .before .before)), (sym (slice-aggregate-fill-2 (c .before)), c .before .before .before .if2 .left))
+note-small-requires : tie.Need-note-small-requires
+note-small-requires c κs = search needs
 
 same-length : tie.Need-same-length
 same-length c = search needs
 
 returns-3 : tie.Need-returns-3
-returns-3 c =
-    let filled = c .before .before .before .before in
-    (λ p e few room. filled .fill .ensures p e, same-length c)
+returns-3 c = (λ p e few room. c .before .before .note-small .ensures p e, same-length c)
+
+note-large-requires : tie.Need-note-large-requires
+note-large-requires c κs = search needs
+
+same-length-2 : tie.Need-same-length-2
+same-length-2 c = search needs
+
+returns-4 : tie.Need-returns-4
+returns-4 c = (λ p e few room. c .before .before .note-large .ensures p e, same-length-2 c)
 
 pub note-graph-spec : {M : Type 1} → statement M
 note-graph-spec =
     tie.close
     (tie.spec
     returns
-    add-past
+    add-if2
     mul-if2
     returns-2
-    array-borrow-prefix-marks
-    slice-aggregate-fill
-    array-borrow-prefix-counts
-    slice-aggregate-fill-2
-    fill-requires
+    note-small-requires
     same-length
-    returns-3)
+    returns-3
+    note-large-requires
+    same-length-2
+    returns-4)

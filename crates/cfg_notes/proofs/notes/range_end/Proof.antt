@@ -8,7 +8,7 @@ use Rattle.lua51_instruction.specs.Proto.{Proto}
 use Rattle.cfg.specs.Graph.{leaderFrom}
 use Rattle.cfg_notes.specs.Notes.{notesOf}
 use Rattle.cfg_notes.proofs.Numbering.{from-here, from-next, from-none, end-last, end-from}
-use Rattle.cfg_notes.proofs.Parts.{third-is, starts-block, starts-none}
+use Rattle.cfg_notes.proofs.Parts.{start-in, third-is, starts-block, starts-none}
 use Rattle.cfg_notes.proofs.notes.range_end.Statement.{statement}
 use Rattle.cfg_notes.proofs.notes.range_end.Tie as tie
 
@@ -39,8 +39,8 @@ add-end c = omega arith
 loop-holds : tie.Need-loop-holds Inv-loop μ-loop
 loop-holds c = (omega arith, omega arith, λ p e. refl)
 
-start-at-requires : tie.Need-start-at-requires Inv-loop μ-loop
-start-at-requires c κs = search needs
+short-at-requires : tie.Need-short-at-requires Inv-loop μ-loop
+short-at-requires c κs = search needs
 
 returns-3 : tie.Need-returns-3 Inv-loop μ-loop
 returns-3 c =
@@ -52,7 +52,7 @@ returns-3 c =
       λ p e le.
           let n = third-is p (a .notes .now) e in
           let lt : end < past = v .before .loop-test .taken in
-          let leads = starts-block p (a .notes .now) e end (v .start-at .result) (v .start-at .ensures) (omega arith) (c .if3 .taken) in
+          let leads = starts-block p (a .notes .now) e end (v .short-at .result) (v .short-at .ensures ∙ start-in (a .notes .now) end lt) (omega arith) (c .if3 .taken) in
           end-from p past (a .j) end n (omega arith) (l .loop .inv .2 p e) (from-here p past end lt leads),
       (omega arith, λ h. omega arith),
     )
@@ -75,7 +75,7 @@ loop-again c =
       λ p e.
           let n = third-is p (a .notes .now) e in
           let lt : end < past = v .before .loop-test .taken in
-          let none = starts-none p (a .notes .now) e end (v .start-at .result) (v .start-at .ensures) (omega arith) (c .if3 .left) in
+          let none = starts-none p (a .notes .now) e end (v .short-at .result) (v .short-at .ensures ∙ start-in (a .notes .now) end lt) (omega arith) (c .if3 .left) in
           from-next p past end lt none ∙ l .loop .inv .2 p e,
     )
 
@@ -102,7 +102,7 @@ range-end-spec =
     returns-2
     add-end
     loop-holds
-    start-at-requires
+    short-at-requires
     returns-3
     add-end-2
     loop-less

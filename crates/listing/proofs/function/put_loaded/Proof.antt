@@ -1,13 +1,10 @@
--- `put_loaded`: its graph is noted, then its F line, its constants and its blocks are printed. Assumes nothing.
+-- `put_loaded`: its F line, its constants and its blocks are printed. Assumes nothing.
 use Rattle.lines.specs.Out.{output}
 use Rattle.lines.proofs.Puts.{prints-then}
 use Rattle.listing.proofs.Loading.{listed}
 use borrow.Author.Needs.{needs}
 use Rattle.listing.proofs.function.put_loaded.Statement.{statement}
 use Rattle.listing.proofs.function.put_loaded.Tie as tie
-
-note-graph-requires : tie.Need-note-graph-requires
-note-graph-requires c κs = search needs
 
 put-function-line-requires : tie.Need-put-function-line-requires
 put-function-line-requires c κs = search needs
@@ -24,18 +21,13 @@ same-length c = search needs
 same-length-2 : tie.Need-same-length-2
 same-length-2 c = search needs
 
-same-length-3 : tie.Need-same-length-3
-same-length-3 c = search needs
-
 returns : tie.Need-returns
 returns c =
     let blocks = c .before .before .before .before in
-    let constants = blocks .before .before .before .before .before .before in
+    let constants = blocks .before .before .before .before .before in
     let first = constants .before .before .before .before in
-    let noted = first .before .before .before .before .before in
-    let a = noted .before .before .before .before .before .before .before .before .before .args in (
-      λ p vs held roomy room read.
-          let notes = noted .note-graph .ensures .0 p (held .stands .words) (held .few) room in
+    let a = first .before .before .before .before .before .before .before .before .before .before .args in (
+      λ p vs held roomy notes read.
           listed (held .stands) vs (output (a .out .now) (a .at))
           (first .put-function-line .ensures)
           (constants .put-constant-lines .ensures .meaning vs read)
@@ -49,11 +41,9 @@ pub put-loaded-spec : {M : Type 1} → statement M
 put-loaded-spec =
     tie.close
     (tie.spec
-    note-graph-requires
     put-function-line-requires
     put-constant-lines-requires
     put-blocks-requires
     same-length
     same-length-2
-    same-length-3
     returns)

@@ -12,6 +12,9 @@ word-at-requires c κs = search needs
 decode-requires : tie.Need-decode-requires
 decode-requires c κs = search needs
 
+flow-of-requires : tie.Need-flow-of-requires
+flow-of-requires c κs = search needs
+
 operand-fault-requires : tie.Need-operand-fault-requires
 operand-fault-requires c κs = search needs
 
@@ -77,6 +80,7 @@ word-verdict-spec =
     (tie.spec
     word-at-requires
     decode-requires
+    flow-of-requires
     operand-fault-requires
     lands-inside-requires
     returns

@@ -1,7 +1,6 @@
 -- `fields::byte_to` meets its contract. Assumes nothing.
 use mathlib.Core.Path.{_∙_}
 use borrow.Author.Needs.{needs}
-use Rattle.lua51_deserializer.specs.Chunk.{byteTo}
 use Rattle.lua51_deserializer.proofs.Cursor.{goes}
 use Rattle.lua51_deserializer.proofs.fields.byte_to.Statement.{statement}
 use Rattle.lua51_deserializer.proofs.fields.byte_to.Tie as tie

@@ -2,7 +2,6 @@
 use mathlib.Core.Path.{_∙_}
 use borrow.Author.Needs.{needs}
 use Rattle.lua51_deserializer.specs.Chunk.{counted}
-use Rattle.lua51_deserializer.specs.Cursor.{elementOf}
 use Rattle.lua51_deserializer.proofs.Cursor.{goes}
 use Rattle.lua51_deserializer.proofs.fields.counted.Statement.{statement}
 use Rattle.lua51_deserializer.proofs.fields.counted.Tie as tie

@@ -1,6 +1,6 @@
--- `instruction::row_of`: each number of the entry is that of its kind or flow. Assumes nothing.
+-- `instruction::row_of`: each number of the entry is that of its kind. Assumes nothing.
 use Rattle.lua51_instruction.specs.Word.{rowOf}
-use Rattle.lua51_instruction.proofs.Numbered.{kind-back, flow-back}
+use Rattle.lua51_instruction.proofs.Numbered.{kind-back}
 use borrow.Author.Needs.{needs}
 use Rattle.lua51_instruction.proofs.instruction.row_of.Statement.{statement}
 use Rattle.lua51_instruction.proofs.instruction.row_of.Tie as tie
@@ -17,19 +17,15 @@ kind-of-requires-2 c κs = search needs
 kind-of-requires-3 : tie.Need-kind-of-requires-3
 kind-of-requires-3 c κs = search needs
 
-flow-of-requires : tie.Need-flow-of-requires
-flow-of-requires c κs = search needs
-
 returns : tie.Need-returns
 returns c =
-    let d = c .before .before .before in
+    let d = c .before .before in
     let e = d .before .row-numbers-of .ensures in
     let row = rowOf (d .before .before .args .opcode) in
     record {
       a = rw (d .kind-of .ensures, e) (kind-back (row .a));
-      b = rw (c .before .before .kind-of2 .ensures, e) (kind-back (row .b));
-      c = rw (c .before .kind-of3 .ensures, e) (kind-back (row .c));
-      flow = rw (c .flow-of .ensures, e) (flow-back (row .flow));
+      b = rw (c .before .kind-of2 .ensures, e) (kind-back (row .b));
+      c = rw (c .kind-of3 .ensures, e) (kind-back (row .c));
     }
 
 pub row-of-spec : {M : Type 1} → statement M
@@ -40,5 +36,4 @@ row-of-spec =
     kind-of-requires
     kind-of-requires-2
     kind-of-requires-3
-    flow-of-requires
     returns)

@@ -21,7 +21,9 @@ operand-fits-requires-3 c κs = search needs
 
 returns : tie.Need-returns
 unfolding operandFault
-returns c = λ p i ws us s d. cc (c .before .before .operand-fits .ensures p i ws us s d, c .before .operand-fits2 .ensures p i ws us s d, c .operand-fits3 .ensures p i ws us s d)
+returns c = λ p i ws us s d.
+    let f = d .fields in
+    cc (c .before .before .operand-fits .ensures p i ws us s f, c .before .operand-fits2 .ensures p i ws us s f, c .operand-fits3 .ensures p i ws us s f)
 
 pub operand-fault-spec : {M : Type 1} → statement M
 operand-fault-spec =

@@ -18,12 +18,6 @@ cast-bx c = search needs
 cast-stack : tie.Need-cast-stack
 cast-stack c = search needs
 
-add-values : tie.Need-add-values
-add-values c = search needs
-
-add-values-2 : tie.Need-add-values-2
-add-values-2 c = search needs
-
 enum-told : tie.Need-enum-told
 enum-told c = search needs
 
@@ -90,6 +84,9 @@ add-result-4 c = search needs
 enum-told-15 : tie.Need-enum-told-15
 enum-told-15 c = search needs
 
+values-fit-requires : tie.Need-values-fit-requires
+values-fit-requires c κs = search needs
+
 enum-told-16 : tie.Need-enum-told-16
 enum-told-16 c = search needs
 
@@ -98,6 +95,9 @@ is-vararg-requires c κs = search needs
 
 needs-arg-requires : tie.Need-needs-arg-requires
 needs-arg-requires c κs = search needs
+
+values-fit-requires-2 : tie.Need-values-fit-requires-2
+values-fit-requires-2 c κs = search needs
 
 enum-told-17 : tie.Need-enum-told-17
 enum-told-17 c = search needs
@@ -172,17 +172,15 @@ returns-13 c = λ p i ws us s d. rw (c .enum-told13 .given .1) cc
 returns-14 : tie.Need-returns-14
 unfolding operand
 returns-14 c = let a = c .before .before .before .before .before .before .before .before .args in
-    λ p i ws us s d. rw (c .enum-told14 .given .1) (cc (run-fits 1 (a .instruction .a) (a .x) (a .head .stack) (omega arith)))
+    λ p i ws us s d. rw (c .enum-told14 .given .1) (cc (run-fits 1 (a .fields .a) (a .x) (a .head .stack) (omega arith)))
 
 returns-15 : tie.Need-returns-15
 unfolding operand
-returns-15 c = let a = c .before .before .before .before .before .before .before .before .args in
-    λ p i ws us s d. rw (c .enum-told15 .given .1) (cc (run-fits 2 (a .instruction .a) (a .x) (a .head .stack) (omega arith)))
+returns-15 c = λ p i ws us s d. rw (c .before .enum-told15 .given .1) cc
 
 returns-16 : tie.Need-returns-16
 unfolding operand
-returns-16 c = let a = c .before .before .before .before .before .before .before .before .before .before .args in
-    λ p i ws us s d. rw (c .before .before .enum-told16 .given .1) (cc (run-fits 2 (a .instruction .a) (a .x) (a .head .stack) (omega arith)))
+returns-16 c = λ p i ws us s d. rw (c .before .before .before .enum-told16 .given .1) cc
 
 returns-17 : tie.Need-returns-17
 unfolding operand
@@ -204,8 +202,6 @@ operand-fits-spec =
     cast-b
     cast-bx
     cast-stack
-    add-values
-    add-values-2
     enum-told
     enum-told-2
     enum-told-3
@@ -228,9 +224,11 @@ operand-fits-spec =
     add-result-3
     add-result-4
     enum-told-15
+    values-fit-requires
     enum-told-16
     is-vararg-requires
     needs-arg-requires
+    values-fit-requires-2
     enum-told-17
     add-result-5
     enum-told-18

@@ -32,14 +32,17 @@ loop-holds c =
       λ p e j l. rw (k .clear-bytes .ensures) (table-at (λ _. 0) n j (omega (arith, k .clear-bytes .kept .0)) ∙ reached-none p j),
     )
 
-mul-decode : tie.Need-mul-decode Inv-loop μ-loop
-mul-decode c = search needs
+mul-opcode-of : tie.Need-mul-opcode-of Inv-loop μ-loop
+mul-opcode-of c = search needs
 
-shared-slice-read-decode : tie.Need-shared-slice-read-decode Inv-loop μ-loop
-shared-slice-read-decode c = search needs
+shared-slice-read-opcode-of : tie.Need-shared-slice-read-opcode-of Inv-loop μ-loop
+shared-slice-read-opcode-of c = search needs
 
-decode-requires : tie.Need-decode-requires Inv-loop μ-loop
-decode-requires c κs = search needs
+opcode-of-requires : tie.Need-opcode-of-requires Inv-loop μ-loop
+opcode-of-requires c κs = search needs
+
+flow-of-requires : tie.Need-flow-of-requires Inv-loop μ-loop
+flow-of-requires c κs = search needs
 
 reach-of-requires : tie.Need-reach-of-requires Inv-loop μ-loop
 reach-of-requires c κs = search needs
@@ -57,8 +60,8 @@ loop-again : tie.Need-loop-again Inv-loop μ-loop
 loop-again c =
     let m = c .before .before in
     let r = m .before in
-    let d = r .before .before .before in
-    let t = d .before .before in
+    let f = r .before .before in
+    let t = f .before .before .before in
     let l = t .before .loop in (
       omega arith,
       m .mark .kept .0 ∙ l .inv .1,
@@ -86,9 +89,10 @@ mark-reached-spec =
     μ-loop
     clear-bytes-requires
     loop-holds
-    mul-decode
-    shared-slice-read-decode
-    decode-requires
+    mul-opcode-of
+    shared-slice-read-opcode-of
+    opcode-of-requires
+    flow-of-requires
     reach-of-requires
     mark-requires
     add-i

@@ -1,0 +1,63 @@
+-- `put_bytes` meets its contract. The loop's invariant: to print all bytes from the start is to print those that are left from here.
+-- Assumes nothing.
+use Prim.Native.Nat.{_-_, _≤_}
+use mathlib.Core.Path.{_≡_, _∙_, sym}
+use lib.ListN.{length, drop}
+use Rattle.lines.specs.Out.{output, puts}
+use Rattle.lines.proofs.Puts.{bytes-turn, bytes-done}
+use borrow.Author.Needs.{needs}
+use Rattle.lines.proofs.put_bytes.Statement.{statement}
+use Rattle.lines.proofs.put_bytes.Tie as tie
+
+abbrev Inv-loop : tie.InvT-loop
+Inv-loop out₀ at bytes next₀ i₀ out next i =
+    (i ≤ length bytes) × (length out ≡ length out₀) × (puts (output out₀ at) bytes ≡ puts (output out next) (drop i bytes))
+
+abbrev μ-loop : tie.MeasureT-loop
+μ-loop out₀ at bytes next₀ i₀ out next i = length bytes - i
+
+loop-holds : tie.Need-loop-holds Inv-loop μ-loop
+loop-holds c = search needs
+
+shared-slice-read-put-byte : tie.Need-shared-slice-read-put-byte Inv-loop μ-loop
+shared-slice-read-put-byte c = search needs
+
+put-byte-requires : tie.Need-put-byte-requires Inv-loop μ-loop
+put-byte-requires c κs = search needs
+
+add-i : tie.Need-add-i Inv-loop μ-loop
+add-i c = search needs
+
+loop-less : tie.Need-loop-less Inv-loop μ-loop
+loop-less c = search needs
+
+loop-again : tie.Need-loop-again Inv-loop μ-loop
+loop-again c =
+    let l = c .before .before .before .before .before .before in
+    let bytes = l .before .before .before .args .bytes .now in
+    let turn = bytes-turn (output (l .loop .out) (l .loop .next)) bytes (l .loop .i) (search needs) in
+    (search needs, search needs, rw (c .before .before .put-byte .ensures) (l .loop .inv .2 ∙ turn))
+
+same-length : tie.Need-same-length Inv-loop μ-loop
+same-length c = search needs
+
+returns : tie.Need-returns Inv-loop μ-loop
+returns c =
+    let l = c .before in
+    let a = l .before .before .before .args in
+    sym (l .loop .inv .2 ∙ bytes-done (output (l .loop .out) (l .loop .next)) (a .bytes .now) (l .loop .i) (c .loop-test .left))
+
+pub put-bytes-spec : {M : Type 1} → statement M
+put-bytes-spec =
+    tie.close
+    (tie.spec
+    Inv-loop
+    μ-loop
+    loop-holds
+    shared-slice-read-put-byte
+    put-byte-requires
+    add-i
+    loop-less
+    loop-again
+    same-length
+    returns)
