@@ -8,8 +8,8 @@
 
 int main(void)
 {
-    static uint8_t chunk[65537]; /* one byte more than a chunk may have: a longer one is seen to be too long */
-    static uint8_t out[65536];   /* as much as the listing program has */
+    static uint8_t chunk[RIGAMEL_CHUNK_MOST + 1]; /* with one byte more, a longer one is seen to be too long */
+    static uint8_t out[RIGAMEL_OUTPUT_FIRST];
     size_t length = fread(chunk, 1, sizeof chunk, stdin);
     if (ferror(stdin)) {
         perror("standard input");

@@ -3,7 +3,7 @@
  * A program opens a chunk, and then has the listings of its functions delivered one after the other into a buffer of its own,
  * which it makes longer where a listing does not fit:
  *
- *     size_t size = 65536;
+ *     size_t size = RIGAMEL_OUTPUT_FIRST;
  *     uint8_t *out = malloc(size);
  *     rigamel_reading reading = rigamel_closed();
  *     rigamel_answer answer = rigamel_open(chunk, length, &reading);
@@ -19,12 +19,11 @@
  * refused the chunk, and nothing was delivered. (31 comes only where no chunk is open. Whoever lends a delivery other bytes than
  * were opened may meet 1 to 14 there, and 32 earlier or later.)
  *
- * examples/c/listing.c is such a program; it also looks at what malloc, realloc, reading and writing answer. Begin with 65,536
- * bytes, as the listing program does: then only a function that the listing program refuses with 33 makes the buffer grow. To
- * begin with fewer costs time: a delivery that ends in 33 has judged the chunk and counted the listing, more than half of what a
- * delivery costs.
+ * examples/c/listing.c is such a program; it also looks at what malloc, realloc, reading and writing answer. To begin with fewer
+ * bytes costs time: a delivery that ends in 33 has judged the chunk and counted the listing, more than half of what a delivery
+ * costs.
  *
- * Link target/staticlib/librigamel.a, which `rt staticlib rigamel` writes (x86-64 Linux).
+ * Link librigamel.a (x86-64 Linux): `pkg-config --cflags --libs rigamel` where it is installed, else target/staticlib/librigamel.a.
  *
  * What holds of every call:
  *
@@ -50,6 +49,9 @@
 extern "C" {
 #endif
 
+/* The version of Rigamel. */
+#define RIGAMEL_VERSION "0.1"
+
 /* A reading of a chunk. The caller keeps it, may copy it, and lends it to each call, which alters it. Any numbers may stand in it:
  * `opened` is 0 where it is closed, and any other number where it is open; `next` is the function whose listing comes next. */
 typedef struct rigamel_reading {
@@ -68,7 +70,7 @@ typedef struct rigamel_answer {
 
 /* The numbers of the refusals. For 1 to 6 the function is 0, and the place an offset into the chunk. For 7 to 14 the function is
  * the one at fault, and the place a word of it, but 0 for 7 and where it has no words. For 31 to 33 the function is the reading's
- * next one, and the place 0. README.md says what to do about each. */
+ * next one, and the place 0. `rigamel help refusals` says what to do about each. */
 enum rigamel_number {
     RIGAMEL_GIVEN = 0,              /* no refusal */
     RIGAMEL_TOO_LONG = 1,           /* over 65,536 bytes; place 0 */
@@ -92,6 +94,12 @@ enum rigamel_number {
     RIGAMEL_NO_FUNCTION = 32,       /* the next function is not below the lent chunk's count: all of them are delivered */
     RIGAMEL_OUTPUT_SHORT = 33       /* output shorter than the listing: lend a longer one */
 };
+
+/* The most bytes that a chunk may have. Who has read one byte more can stop: the chunk is refused by 1. */
+#define RIGAMEL_CHUNK_MOST 65536
+
+/* With how many bytes of output to begin: only a function that the listing program refuses with 33 asks for more. */
+#define RIGAMEL_OUTPUT_FIRST 65536
 
 /* The most bytes that rigamel_print_refusal prints, whatever the numbers. */
 #define RIGAMEL_LINE_MOST 62

@@ -7,7 +7,7 @@
 #include "rigamel.h"
 
 #ifndef FIRST_SIZE
-#define FIRST_SIZE 65536 /* as the listing program has: only a function that it refuses with 33 asks for more */
+#define FIRST_SIZE RIGAMEL_OUTPUT_FIRST
 #endif
 
 static void fail(const char *what)
@@ -65,7 +65,7 @@ static rigamel_answer print_listings(const uint8_t *chunk, size_t length)
 
 int main(int argc, char **argv)
 {
-    static uint8_t chunk[65537]; /* one byte more than a chunk may have: a longer file is seen to be too long */
+    static uint8_t chunk[RIGAMEL_CHUNK_MOST + 1]; /* with one byte more, a longer file is seen to be too long */
     if (argc != 2) {
         fprintf(stderr, "usage: listing FILE\n");
         return 2;

@@ -10,7 +10,7 @@
 static_assert(sizeof(rigamel_reading) == 8 && offsetof(rigamel_reading, next) == 4, "a reading is two numbers");
 static_assert(sizeof(rigamel_answer) == 32 && offsetof(rigamel_answer, length) == 24, "an answer is four numbers");
 
-enum { GUARD = 64, FILL = 0xA5, MOST = 65536 };
+enum { GUARD = 64, FILL = 0xA5, MOST = RIGAMEL_CHUNK_MOST };
 
 static int failures = 0;
 
