@@ -9,7 +9,7 @@ WIDTH bytes (4 or 8, default 8), for a luac that expects those.
     mix-N       one function of N words: assignments, arithmetic, tests, calls, a numeric loop
     captures-N  one function of N words, nearly all of them captures of closures: 14 bytes of
                 the listing each, and no kind of word takes less on average
-    parts-N     N functions of 1,024 words, as in mix-1024, in a main function
+    parts-N     N functions of 768 words, as in mix-768, in a main function
     many-256    256 functions, main included
     deep-32     functions nested 32 deep
     full        one function whose listing has 65,536 bytes
@@ -121,22 +121,22 @@ def deep(depth):
 
 
 def full(total=65536):
-    """Straight code, and constants that fill the listing up. In bytes: F, B and the last B 30, the entry 30 and 44 for each
-    register and 16 for its edge, the return 16, a MOVE 51, a nil 16, a string 23 and 7 for each of its bytes"""
-    moves = 1000
-    left = total - (30 + 30 + 30 + 30 + 44 * 2 + 16 + 16 + 51 * moves)
+    """Straight code, and constants that fill the listing up. In bytes: F, B and the last B 30, the entry 30 and 58 for each
+    register and 16 for its edge, the return 30, a MOVE 65, a nil 16, a string 23 and 7 for each of its bytes"""
+    moves = 800
+    left = total - (30 + 30 + 30 + 30 + 58 * 2 + 16 + 30 + 65 * moves)
     nils = next(n for n in range(7) if (left - 23 - 16 * n) % 7 == 0)
     text = bytes(97 + i % 26 for i in range((left - 23 - 16 * nils) // 7))
     return Function([abc(MOVE, 0, 1)] * moves + [abc(RETURN, 0, 1)], 2, [None] * nils + [text])
 
 
 def all_chunks():
-    for n in (1024, 2048, 4096, 8192):
+    for n in (768, 2048, 4096, 8192):
         yield "mix-%d" % n, mix(n)
     for n in (1024, 2048, 4096, 8192):
         yield "captures-%d" % n, captures(n)
     for n in (1, 2, 4, 8):
-        yield "parts-%d" % n, closures([mix(1024) for _ in range(n)])
+        yield "parts-%d" % n, closures([mix(768) for _ in range(n)])
     yield "many-256", closures([mix(33) for _ in range(255)])
     yield "deep-32", deep(32)
     yield "full", full()

@@ -12,7 +12,7 @@ import subprocess
 import sys
 import time
 
-CHUNKS = ("mix-1024", "captures-4096", "parts-8", "many-256", "deep-32", "full")
+CHUNKS = ("mix-768", "captures-4096", "parts-8", "many-256", "deep-32", "full")
 ROUNDS = 7
 RUNS = 40
 

@@ -8,7 +8,8 @@
 
 enum {
     COLUMN = 7,    /* the width of a number in a line */
-    IN_A_ROW = 16, /* the most numbers of a statement that stand side by side; the next row begins with .. */
+    NAMED = 2,     /* the numbers of an S line before the statement: its word and that word's opcode */
+    IN_A_ROW = 16, /* the most numbers of an S line that stand side by side; the next row begins with .. */
     ROWS = 100     /* the rows behind which the statements of a box go on in its next column */
 };
 
@@ -78,15 +79,22 @@ static void put_head(const listing *l)
         put_words(first, past);
 }
 
+/* What stands before number i of an S line. */
+static const char *before(size_t i)
+{
+    if (i == 0)
+        return "";
+    if (i == NAMED)
+        return ": ";
+    return i % IN_A_ROW == 0 ? "\\l.. " : " ";
+}
+
 /* A statement is written into the box, by an S line. Gives the count of rows. */
 static size_t put_statement(const listing *l)
 {
     size_t count = (size_t)(line_end(l) - l->line - 1) / COLUMN;
-    for (size_t i = 0; i < count; i++) {
-        if (i > 0)
-            print("%s", i % IN_A_ROW == 0 ? "\\l.. " : " ");
-        print("%lu", number(l, i));
-    }
+    for (size_t i = 0; i < count; i++)
+        print("%s%lu", before(i), number(l, i));
     print("\\l");
     return (count + IN_A_ROW - 1) / IN_A_ROW;
 }

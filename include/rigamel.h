@@ -23,6 +23,10 @@
  * bytes costs time: a delivery that ends in 33 has judged the chunk and counted the listing, more than half of what a delivery
  * costs.
  *
+ * A listing is lines: a letter, then decimal numbers in 7 columns each. A statement's line is S, the word that gives it, that word's
+ * opcode, and the statement; in the entry block, to which no word belongs, the function's count of words and 99 stand for the first
+ * two. README.md and rigamel(1) tell about all lines.
+ *
  * Link librigamel.a (x86-64 Linux): `pkg-config --cflags --libs rigamel` where it is installed, else target/staticlib/librigamel.a.
  *
  * What holds of every call:
@@ -49,8 +53,9 @@
 extern "C" {
 #endif
 
-/* The version of Rigamel. */
-#define RIGAMEL_VERSION "0.1"
+/* The version of Rigamel. It is raised with what users or programs in C can see. 0.2: an S line begins with the word behind its
+ * statement and that word's opcode. */
+#define RIGAMEL_VERSION "0.2"
 
 /* A reading of a chunk. The caller keeps it, may copy it, and lends it to each call, which alters it. Any numbers may stand in it:
  * `opened` is 0 where it is closed, and any other number where it is open; `next` is the function whose listing comes next. */

@@ -24,8 +24,12 @@ def word(name, a=0, b=0, c=0):
     return OPCODE[name] | a << 6 | c << 14 | b << 23
 
 
+def opcode_of(w):
+    return w & 63
+
+
 def name_of(w):
-    return NAMES[w & 63] if w & 63 < len(NAMES) else '?'
+    return NAMES[opcode_of(w)] if opcode_of(w) < len(NAMES) else '?'
 
 
 def a_of(w):

@@ -11,6 +11,11 @@ here = os.path.dirname(os.path.abspath(__file__))
 # docs/DIFFERENCES.md's classes
 LIST_INDEX, LIST_256, BOTH_EDGES, CONSTANTS, NESTED, ORDER = 1, 2, 3, 4, 5, 6
 
+COLUMN = 7
+NAMED = 2                                       # numbers of an S line before its statement: the word that it names, its opcode
+ENTRY, ENTRY_OPCODE = 1, 99                     # the entry's kind, and what its statements have for an opcode
+ON_THEN = ('TESTSET', 'FORLOOP', 'TFORLOOP')    # words with an assignment that stands in another block
+
 INDEX_PER_C = 50
 TODO = 'not yet implemented'
 
@@ -38,18 +43,40 @@ def rigamel(program, data):
     return subprocess.run([program], input=data, stdout=subprocess.PIPE, check=True).stdout.decode('ascii')
 
 
+def line_of(letter, numbers):
+    return letter + '%7d' * len(numbers) % tuple(numbers)
+
+
 def numbers_of(line):
     """The numbers behind a line's letter, each in 7 columns."""
-    if (len(line) - 1) % 7:
+    try:
+        numbers = [int(line[i:i + COLUMN]) for i in range(1, len(line), COLUMN)]
+    except ValueError:
+        numbers = []
+    if '-' in line or line_of(line[:1], numbers) != line:
         raise Other('columns: %r' % line)
-    return [int(line[i:i + 7]) for i in range(1, len(line), 7)]
+    return numbers
+
+
+def without_words(line):
+    """A line as the original's answers have it: an S line without the word that it names and that word's opcode."""
+    return 'S' + line[1 + NAMED * COLUMN:] if line[:1] == 'S' else line
 
 
 class Listing:
-    """The printed listing of one function: its F and K lines, and its B, S and E lines, as text."""
+    """The printed listing of one function: its F and K lines, and its B, S and E lines, as text; of the S lines the words that they
+    name, with their opcodes, stand apart."""
 
     def __init__(self, first):
-        self.head, self.body = [first], []
+        self.head, self.body, self.named = [first], [], []
+
+    def add(self, line):
+        if line[0] == 'S':
+            numbers = numbers_of(line)
+            if len(numbers) <= NAMED:
+                raise Other('columns: %r' % line)
+            self.named.append(tuple(numbers[:NAMED]))
+        self.body.append(without_words(line))
 
 
 def listings_of(text):
@@ -68,7 +95,7 @@ def listings_of(text):
         elif letter == 'K' and out and not out[-1].body:
             out[-1].head.append(line)
         elif letter in ('B', 'S', 'E') and out:
-            out[-1].body.append(line)
+            out[-1].add(line)
         else:
             raise Other('line %r' % line)
     return out, None
@@ -258,6 +285,7 @@ class Compared:
         if listing.head != answer.head:
             raise Other('F and K lines: %s, original %s' % first_difference(listing.head, answer.head))
         self.values, self.lowest = values_of(listing.head)
+        self.compare_named()
         self.compare_lifts()
         replaced = {}
         if answer.by_value is None:
@@ -269,6 +297,14 @@ class Compared:
             raise Other('lines: %s, original %s' % first_difference(listing.body, answer.by_index))
         if answer.as_found != answer.by_index:
             self.classes.add(ORDER)
+
+    def compare_named(self):
+        """The words that statements name, of which the original tells nothing."""
+        named = iter(self.listing.named)
+        for block in blocks_of(self.listing.body):
+            here = [next(named) for _ in block.statements]
+            if not well_named(self.function.words, block.head, here):
+                raise Other('block %d: its statements name %s' % (block.head[0], here))
 
     def compare_lifts(self):
         """How many functions were lifted, and which did not come back."""
@@ -363,6 +399,20 @@ class Compared:
             raise different
         self.loops += 1
         self.classes.add(BOTH_EDGES)
+
+
+def well_named(words, head, named):
+    """Whether the statements of a block name words with their opcodes, those of the entry n and 99; and whether, behind what a word
+    of ON_THEN has put at the block's front or into a between, they name words of its range that never fall."""
+    _, first, end, kind = head
+    if kind == ENTRY:
+        return all(name == (len(words), ENTRY_OPCODE) for name in named)
+    if not all(w < len(words) and opcode == chunks.opcode_of(words[w]) for w, opcode in named):
+        return False
+    own = [w for w, _ in named]
+    if own and chunks.name_of(words[own[0]]) in ON_THEN:
+        own = own[1:]
+    return own == sorted(own) and all(first <= w < end for w in own)
 
 
 def first_difference(mine, theirs):

@@ -22,7 +22,7 @@ use Rattle.cfg.proofs.Leaders.{leader-claimed, past-found}
 use Rattle.cfg.proofs.Entering.{loop-cases, loop-leads}
 use Rattle.cfg.proofs.Diverting.{numeric-then, generic-then}
 use Rattle.lua51_lifter.specs.Check.{check, fine, landsInside}
-use Rattle.lua51_lifter.specs.Blocks.{leads, codeBlock}
+use Rattle.lua51_lifter.specs.Blocks.{leads, edgesOf}
 use Rattle.lua51_lifter.specs.Listing.{edgeLine}
 use Rattle.lua51_lifter.proofs.Accepted.{lands, end-leader}
 use Rattle.lua51_statements.proofs.Pieces.{pieces-one}
@@ -46,7 +46,7 @@ module _ (p : Proto) (i : ℕ) (e : Edge) where
 
 -- the line of an edge, by the block that it leads to
 pub edge-line : (p : Proto) (i : ℕ) (e : Edge) (block : ℕ) → block ≡ leads p i e .to → line letter-E (e .kind ∷ block ∷ []) ≡ edgeLine (leads p i e)
-unfolding edgeLine leads
+unfolding leads
 edge-line p i e block h = rw h
 
 -- ------------------------------------------------------------ the edges of a word
@@ -137,12 +137,12 @@ module _ (p : Proto) (i : ℕ) where
 
 module _ (p : Proto) (j : ℕ) where
   -- the block at n has none
-  pub end-edges : j ≡ size p → codeBlock p j .edges ≡ []
-  unfolding codeBlock
+  pub end-edges : j ≡ size p → edgesOf p j ≡ []
+  unfolding edgesOf
   end-edges e = rw (eq-eqb j (size p) e)
 
-  pub last-edges : j < size p → codeBlock p j .edges ≡ map (leads p (past p j - 1)) (leaving p (past p j - 1) (flowAt p (past p j - 1)))
-  unfolding codeBlock
+  pub last-edges : j < size p → edgesOf p j ≡ map (leads p (past p j - 1)) (leaving p (past p j - 1) (flowAt p (past p j - 1)))
+  unfolding edgesOf
   last-edges lt = rw (ne-eqb j (size p) (λ e. omega arith))
 
   -- its last word is a word, and behind it the next block starts

@@ -1,5 +1,5 @@
 -- What the printers of blocks go by: a function in which nothing is refused, what the code holds of it, and the notes of its graph.
-use Prim.Native.Nat.{ℕ, zero, suc, _≤_}
+use Prim.Native.Nat.{ℕ, _≤_}
 use mathlib.Core.Bool.{cond}
 use mathlib.Core.List.{List, []}
 use mathlib.Core.Path.{_≡_}
@@ -7,12 +7,10 @@ use Rattle.lua51_instruction.specs.Proto.{Proto, size}
 use Rattle.lua51_deserializer.specs.Chunk.{most-words}
 use Rattle.lua51_function.specs.Function.{Stands}
 use Rattle.lua51_function.specs.declared.function.Head.{Head}
-use Rattle.ast.specs.Statement.{Stmt}
 use Rattle.cfg.specs.Graph.{leader, blockOf, diverted, betweenOf}
 use Rattle.cfg_notes.specs.Notes.{notesOf}
 use Rattle.lua51_lifter.specs.Check.{check, fine}
-use Rattle.lua51_lifter.specs.Lift.{onThen}
-use Rattle.lua51_lifter.specs.Blocks.{codeBlock, betweenBlock}
+use Rattle.lua51_lifter.specs.Blocks.{naming, codeBlock, betweenBlock}
 use Rattle.lua51_lifter.specs.Listing.{blockLine}
 
 -- how many numbers a buffer has that holds every run of an accepted function
@@ -33,15 +31,10 @@ pub record Held (p : Proto) (h : Head) (ws fs us : List ℕ) : Type 0 where
   pub kinds : List ℕ
   pub stands : Stands p h ws kinds fs us
 
--- the assignment that a front's note stands for: 0 for none, else 1 more than the word that has it on its Then edge
-abbrev pub noted : Proto → ℕ → List Stmt
-noted p zero = []
-noted p (suc i) = onThen p i
-
 -- the lines of the block whose range starts at word j, where one does
 unfoldable pub codeLines : Proto → ℕ → List ℕ
-codeLines p j = cond (leader p j) (blockLine (blockOf p j) (codeBlock p j)) []
+codeLines p j = cond (leader p j) (blockLine (blockOf p j) (codeBlock naming p j)) []
 
 -- the lines of the between block of word i, where it has one
 unfoldable pub betweenLines : Proto → ℕ → List ℕ
-betweenLines p i = cond (diverted p i) (blockLine (betweenOf p i) (betweenBlock p i)) []
+betweenLines p i = cond (diverted p i) (blockLine (betweenOf p i) (betweenBlock naming p i)) []

@@ -9,7 +9,7 @@ ghost use Rattle.lines.specs.Out.{output, puts, Prints};
 ghost use Rattle.lua51_instruction.specs.Proto.{Proto, size};
 ghost use Rattle.cfg.specs.Graph.{leader, blockOf};
 ghost use Rattle.cfg_notes.specs.Notes.{notesOf};
-ghost use Rattle.lua51_lifter.specs.Blocks.{front, codeBlock, entryBlock};
+ghost use Rattle.lua51_lifter.specs.Blocks.{naming, front, codeBlock, entryBlock};
 ghost use Rattle.lua51_lifter.specs.Listing.{blockLine};
 ghost use Rattle.lua51_statements.specs.Lines.{lineWithin};
 ghost use Rattle.block_lines.specs.Lines.{run-numbers, Checked, Held, betweenLines};
@@ -36,6 +36,9 @@ const ENTRY: usize = 1;
 
 const BETWEEN: usize = 2;
 
+// What stands for an opcode where the entry's statements name one: no word gives them.
+const ENTRY_OPCODE: u8 = 99;
+
 // Prints a B line.
 fn put_block_line(
     out: &mut [u8],
@@ -60,7 +63,7 @@ fn put_front(
     t: usize,
 ) -> usize
     ensures { λ r. ⌜ ((p : Proto) → Checked p (now (words .entry)) (now (notes .entry)) → t ≤ size p
-        → output (now (out .exit)) r ≡ puts (output (now (out .entry)) at) (flatMap (lineWithin (length (now (run .entry)))) (front p t))) ⌝ }
+        → output (now (out .exit)) r ≡ puts (output (now (out .entry)) at) (flatMap (lineWithin (length (now (run .entry)))) (front naming p t))) ⌝ }
     ensures anyway { λ r. ⌜ Prints (output (now (out .entry)) at) (output (now (out .exit)) r) ⌝ }
 {
     let front = front_at(notes, t);
@@ -83,7 +86,7 @@ pub fn put_code_block(
     j: usize,
 ) -> usize
     ensures { λ r. ⌜ ((p : Proto) → Held p head (now (words .entry)) (now (nested .entry)) (now (nups .entry)) → run-numbers ≤ length (now (run .entry)) → now (notes .entry) ≡ notesOf p → j ≤ size p → leader p j ≡ true
-        → output (now (out .exit)) r ≡ puts (output (now (out .entry)) at) (blockLine (blockOf p j) (codeBlock p j))) ⌝ }
+        → output (now (out .exit)) r ≡ puts (output (now (out .entry)) at) (blockLine (blockOf p j) (codeBlock naming p j))) ⌝ }
     ensures anyway { λ r. ⌜ Prints (output (now (out .entry)) at) (output (now (out .exit)) r) ⌝ }
 {
     let end = range_end(notes, j);
@@ -96,12 +99,12 @@ pub fn put_code_block(
 // Prints the entry block of a function of n words: its registers behind the parameters get nil.
 pub fn put_entry(out: &mut [u8], at: usize, head: Head, number: usize, n: usize) -> usize
     ensures { λ r. ⌜ ((p : Proto) → p .parameters ≡ head .parameters → p .stack ≡ head .stack → n ≡ size p
-        → output (now (out .exit)) r ≡ puts (output (now (out .entry)) at) (blockLine number (entryBlock p))) ⌝ }
+        → output (now (out .exit)) r ≡ puts (output (now (out .entry)) at) (blockLine number (entryBlock naming p))) ⌝ }
     ensures anyway { λ r. ⌜ Prints (output (now (out .entry)) at) (output (now (out .exit)) r) ⌝ }
 {
     let first = put_block_line(out, at, number, n, n, ENTRY);
     let registers = minus(head.stack as u16, head.parameters as u16);
-    let body = put_nils(out, first, head.parameters, registers);
+    let body = put_nils(out, first, n, ENTRY_OPCODE, head.parameters, registers);
     put_edge_line(out, body, PLAIN, 0)
 }
 

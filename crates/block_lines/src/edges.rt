@@ -9,7 +9,7 @@ ghost use Rattle.lua51_instruction.specs.Proto.{Proto, size, flowAt};
 ghost use Rattle.cfg.specs.Graph.{leader, past, leaving};
 ghost use Rattle.cfg.specs.Arrays.{edgeMeant};
 ghost use Rattle.cfg_notes.specs.Notes.{notesOf};
-ghost use Rattle.lua51_lifter.specs.Blocks.{leads, codeBlock};
+ghost use Rattle.lua51_lifter.specs.Blocks.{leads, edgesOf};
 ghost use Rattle.lua51_lifter.specs.Listing.{edgeLine};
 ghost use Rattle.block_lines.specs.Lines.{Checked};
 use basics::numbers::before;
@@ -80,7 +80,7 @@ pub fn put_exits(
     end: usize,
 ) -> usize
     ensures { λ r. ⌜ ((p : Proto) → Checked p (now (words .entry)) (now (notes .entry)) → j ≤ size p → end ≡ past p j
-        → output (now (out .exit)) r ≡ puts (output (now (out .entry)) at) (flatMap edgeLine (codeBlock p j .edges))) ⌝ }
+        → output (now (out .exit)) r ≡ puts (output (now (out .entry)) at) (flatMap edgeLine (edgesOf p j))) ⌝ }
     ensures anyway { λ r. ⌜ Prints (output (now (out .entry)) at) (output (now (out .exit)) r) ⌝ }
 {
     if words.len() <= j {

@@ -25,8 +25,10 @@ use Rattle.lua51_lifter.specs.Check.{wordVerdict, opener, user, slot, matches, 
 use Rattle.lua51_lifter.specs.Check.{allCaptures, reaches, reached, useVerdict, check}
 use Rattle.lua51_lifter.specs.Lift.{rk, condition, concatenated, captures, taken, openResults, statementsBy, pending}
 use Rattle.lua51_lifter.specs.Lift.{statements, onThen}
-use Rattle.lua51_lifter.specs.Blocks.{front, leads, codeBlock, entryBlock, betweenBlock, graph}
-use Rattle.lua51_lifter.specs.Listing.{value, constantLines, statementLine, edgeLine, blockLine, blockLines, listing}
+use Rattle.lua51_lifter.specs.Blocks.{leads, edgesOf, entryNils, stated, brought, front, codeBlock, entryBlock, betweenBlock}
+use Rattle.lua51_lifter.specs.Blocks.{blocks, naming, graph}
+use Rattle.lua51_lifter.specs.Listing.{value, constantItems, blockItems, allBlockItems, functionItems, namedNumbers, items, listing}
+use Rattle.lua51_lifter.specs.WordBehind.{comparedItems}
 use Rattle.judging.specs.Judge.{judgeFrom, judgeRead, judge, listingOf}
 use Rattle.reading.specs.Program.{listings, piecesFor, pieces}
 use Rattle.follow.specs.Account.{onward, account}
@@ -38,8 +40,8 @@ use Rattle.follow.specs.WordFollower.{takesOpen, firstSlot, taken-up, kept, tak
 use Rattle.follow.specs.WordFollower.{wordStep, byWords}
 use Rattle.lines.specs.Text.{bytes}
 use Rattle.cases.specs.Make.{int, functionBytes, chunk}
-use Rattle.cases.specs.Cases.{answerNumbers, eventNumbers, functionOf, blockAt, told, Case, AllHold}
-use Rattle.cases.specs.Table.{return-alone, return-listing, equal-jump, equal-back, numeric-for, loop-onward, past-the-jump}
+use Rattle.cases.specs.Cases.{answerNumbers, eventNumbers, functionOf, told, Case, AllHold}
+use Rattle.cases.specs.Table.{return-alone, return-compared, return-listing, equal-jump, equal-back, numeric-for, loop-onward, past-the-jump}
 use Rattle.cases.specs.Table.{loop-first, three-deep, proved-cases, jump-over-listing, slip-cases, listing-0}
 use Rattle.cases.specs.Table.{listing-1, listing-2, nested-cases, cases}
 
@@ -78,12 +80,13 @@ unfolding targetOf flatMap flatten digits decimal column line over sum times opO
     registers claims leader blockOf leaderFrom past leaving exits entering isLoop thenOf diverted betweenOf firstRefusal
     headFault lastFault operand operandFault landsInside tests wordVerdict opener user slot matches unused-results
     missing-results allCaptures reaches reached useVerdict check rk condition concatenated captures taken openResults
-    statementsBy pending statements onThen front leads codeBlock entryBlock betweenBlock graph value constantLines
-    statementLine edgeLine blockLine blockLines listing judgeFrom judgeRead judge listingOf listings piecesFor
-    pieces onward account fold folds marked marks opensOf opensIn inside outside insides outsides tailOpens
-    tailMarked actions bare endingOf ending answered nextBlock graphStep entryFrom byBlocks byGraph named RK jumped
-    upward slots nils strung areCaptures capturesFrom takesOpen firstSlot taken-up kept takes testing doing
-    wordStepFrom wordStep byWords int functionBytes chunk bytes answerNumbers eventNumbers functionOf blockAt told
-    return-alone return-listing equal-jump equal-back numeric-for loop-onward loop-first three-deep proved-cases
+    statementsBy pending statements onThen leads edgesOf entryNils stated brought front codeBlock entryBlock
+    betweenBlock blocks naming graph value constantItems blockItems allBlockItems functionItems namedNumbers items
+    listing judgeFrom judgeRead judge listingOf listings piecesFor pieces onward account fold folds marked marks
+    opensOf opensIn inside outside insides outsides tailOpens tailMarked actions bare endingOf ending answered
+    nextBlock graphStep entryFrom byBlocks byGraph named RK jumped upward slots nils strung areCaptures capturesFrom
+    takesOpen firstSlot taken-up kept takes testing doing wordStepFrom wordStep byWords int functionBytes chunk bytes
+    answerNumbers eventNumbers functionOf told
+    comparedItems return-alone return-compared return-listing equal-jump equal-back numeric-for loop-onward loop-first three-deep proved-cases
     jump-over-listing past-the-jump slip-cases listing-0 listing-1 listing-2 nested-cases cases
 all-hold = hold cases refl

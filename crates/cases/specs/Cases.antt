@@ -3,15 +3,16 @@ use Prim.Native.Nat.{ℕ}
 use mathlib.Core.Bool.{Bool, true, false}
 use mathlib.Core.Path.{_≡_}
 use mathlib.Core.List.{List, [], _∷_, flatMap}
-use lib.ListN.{getD}
 use Rattle.lua51_instruction.specs.Proto.{Proto}
-use Rattle.lua51_deserializer.specs.Chunk.{walk, protoAt}
+use Rattle.lua51_deserializer.specs.Chunk.{walk, protoAt, constantsAt}
 use Rattle.ast.specs.Statement.{expr, run}
-use Rattle.lua51_lifter.specs.Blocks.{Block, graph}
+use Rattle.lua51_lifter.specs.Blocks.{blockAt, saidIn}
+use Rattle.lua51_lifter.specs.Listing.{itemLine}
+use Rattle.lua51_lifter.specs.WordBehind.{comparedItems}
 use Rattle.judging.specs.Judge.{Answer, given, refusal, judge, listingOf}
 use Rattle.reading.specs.Program.{pieces}
 use Rattle.follow.specs.Account.{holds, continues, does, opens, Event, action, question, answer, pause, ended, lost}
-use Rattle.follow.specs.GraphFollower.{no-block, byGraph}
+use Rattle.follow.specs.GraphFollower.{byGraph}
 use Rattle.follow.specs.WordFollower.{byWords}
 use Rattle.cases.specs.Make.{chunk}
 
@@ -20,11 +21,13 @@ use Rattle.cases.specs.Make.{chunk}
 pub data Asked : Type 0 where
   -- the judgement: a count of functions; or a refusal's number, function and place
   judged : Asked
-  -- the listing of a function
+  -- the listing of a function; what document 01 compares of it
   listed : ℕ → Asked
+  compared : ℕ → Asked
   -- what the listing program writes
   printed : Asked
-  -- of a function and one of its blocks: the numbers of its statements, one after the other; kind and target of its edges
+  -- of a function and one of its blocks: the numbers of its statements, one after the other, without the words that they
+  -- name; kind and target of its edges
   statements : ℕ → ℕ → Asked
   edges : ℕ → ℕ → Asked
   -- of a function and a list of answers: what the follower of the graph and that of the words write, in 20 steps
@@ -50,20 +53,18 @@ eventNumbers pause = 6 ∷ []
 eventNumbers ended = 7 ∷ []
 eventNumbers lost = 8 ∷ []
 
--- function f of a chunk, and its block b
+-- function f of a chunk
 unfoldable pub functionOf : List ℕ → ℕ → Proto
 functionOf s f = protoAt s (walk s .places) f
-
-unfoldable pub blockAt : List ℕ → ℕ → ℕ → Block
-blockAt s f b = getD (graph (functionOf s f)) b no-block
 
 -- what the definitions tell
 unfoldable pub told : List ℕ → Asked → List ℕ
 told s judged = answerNumbers (judge s)
 told s (listed f) = listingOf s f
+told s (compared f) = flatMap itemLine (comparedItems (functionOf s f) (constantsAt s (walk s .places) f))
 told s printed = flatMap (λ piece. piece) (pieces s)
-told s (statements f b) = flatMap run (blockAt s f b .body)
-told s (edges f b) = flatMap (λ e. e .kind ∷ e .to ∷ []) (blockAt s f b .edges)
+told s (statements f b) = flatMap run (saidIn (blockAt (functionOf s f) b))
+told s (edges f b) = flatMap (λ e. e .kind ∷ e .to ∷ []) (blockAt (functionOf s f) b .edges)
 told s (by-graph f answers) = flatMap eventNumbers (byGraph (functionOf s f) 20 answers)
 told s (by-words f answers) = flatMap eventNumbers (byWords (functionOf s f) 20 answers)
 

@@ -8,7 +8,7 @@ use Rattle.lua51_deserializer.specs.Chunk.{header}
 use Rattle.lines.specs.Text.{bytes}
 use Rattle.lua51_instruction.specs.Encode.{abc, abx, jumps}
 use Rattle.cases.specs.Make.{functionBytes, chunk}
-use Rattle.cases.specs.Cases.{Case, Asked, judged, listed, printed, statements, edges, by-graph, by-words}
+use Rattle.cases.specs.Cases.{Case, Asked, judged, listed, compared, printed, statements, edges, by-graph, by-words}
 
 abbrev case : List ℕ → Asked → List ℕ → Case
 case s asked expected = record { chunk = s; asked = asked; expected = expected }
@@ -23,8 +23,9 @@ return = abc RETURN 0 1 0
 unfoldable pub return-alone : List ℕ
 return-alone = chunk 2 (return ∷ [])
 
-unfoldable pub return-listing : List ℕ
-return-listing =
+-- its lines in document 01
+unfoldable pub return-compared : List ℕ
+return-compared =
     bytes "F      0      0      0      2\n"
     ++ bytes "B      0      0      1      0\n"
     ++ bytes "S      4      0\n"
@@ -32,6 +33,18 @@ return-listing =
     ++ bytes "B      2      1      1      1\n"
     ++ bytes "S      1      1      1      1      0      3\n"
     ++ bytes "S      1      1      1      1      1      3\n"
+    ++ bytes "E      0      0\n"
+
+-- its listing, each S line with the word and its opcode (document 02, 1)
+unfoldable pub return-listing : List ℕ
+return-listing =
+    bytes "F      0      0      0      2\n"
+    ++ bytes "B      0      0      1      0\n"
+    ++ bytes "S      0     30      4      0\n"
+    ++ bytes "B      1      1      1      0\n"
+    ++ bytes "B      2      1      1      1\n"
+    ++ bytes "S      1     99      1      1      1      1      0      3\n"
+    ++ bytes "S      1     99      1      1      1      1      1      3\n"
     ++ bytes "E      0      0\n"
 
 -- EQ 0 0 0, JMP 0, RETURN
@@ -69,6 +82,7 @@ proved-cases =
     -- P1: 'no words: 8, place 0'
     case (chunk 1 []) judged (8 ∷ 0 ∷ 0 ∷ []) ∷
     -- P2: 'above'
+    case return-alone (compared 0) return-compared ∷
     case return-alone (listed 0) return-listing ∷
     -- P3: 'JMP to n − 1 stands, to n is 10'
     case (chunk 1 (jumps JMP 0 0 1 ∷ return ∷ [])) judged (1 ∷ []) ∷
@@ -101,13 +115,13 @@ jump-over-listing =
     ++ bytes "B      0      0      1      0\n"
     ++ bytes "E      0      2\n"
     ++ bytes "B      1      1      2      0\n"
-    ++ bytes "S      1      1      1      1      0      1      0\n"
+    ++ bytes "S      1      0      1      1      1      1      0      1      0\n"
     ++ bytes "E      0      2\n"
     ++ bytes "B      2      2      3      0\n"
-    ++ bytes "S      4      0\n"
+    ++ bytes "S      2     30      4      0\n"
     ++ bytes "B      3      3      3      0\n"
     ++ bytes "B      4      3      3      1\n"
-    ++ bytes "S      1      1      1      1      0      3\n"
+    ++ bytes "S      3     99      1      1      1      1      0      3\n"
     ++ bytes "E      0      0\n"
 
 -- what both write of them with yes: register 0 gets nil; is register 0 equal to register 0? yes; return; end
@@ -136,35 +150,35 @@ listing-0 =
     bytes "F      0      0      0      2\n"
     ++ bytes "K      0      3  32760   1541   1027    513\n"
     ++ bytes "B      0      0      3      0\n"
-    ++ bytes "S      1      1      1      1      0     12      1      0\n"
-    ++ bytes "S      1      1      1      1      1      2      0\n"
-    ++ bytes "S      4      0\n"
+    ++ bytes "S      0     36      1      1      1      1      0     12      1      0\n"
+    ++ bytes "S      1      1      1      1      1      1      1      2      0\n"
+    ++ bytes "S      2     30      4      0\n"
     ++ bytes "B      1      3      3      0\n"
     ++ bytes "B      2      3      3      1\n"
-    ++ bytes "S      1      1      1      1      0      3\n"
-    ++ bytes "S      1      1      1      1      1      3\n"
+    ++ bytes "S      3     99      1      1      1      1      0      3\n"
+    ++ bytes "S      3     99      1      1      1      1      1      3\n"
     ++ bytes "E      0      0\n"
 
 unfoldable pub listing-1 : List ℕ
 listing-1 =
     bytes "F      1      2      0      3\n"
     ++ bytes "B      0      0      3      0\n"
-    ++ bytes "S      1      1      1      1      2     12      2      1      1      1\n"
-    ++ bytes "S      4      1      1      2\n"
+    ++ bytes "S      0     36      1      1      1      1      2     12      2      1      1      1\n"
+    ++ bytes "S      2     30      4      1      1      2\n"
     ++ bytes "B      1      3      3      0\n"
     ++ bytes "B      2      3      3      1\n"
-    ++ bytes "S      1      1      1      1      2      3\n"
+    ++ bytes "S      3     99      1      1      1      1      2      3\n"
     ++ bytes "E      0      0\n"
 
 unfoldable pub listing-2 : List ℕ
 listing-2 =
     bytes "F      2      0      1      1\n"
     ++ bytes "B      0      0      2      0\n"
-    ++ bytes "S      1      1      1      1      0      5      0\n"
-    ++ bytes "S      4      1      1      0\n"
+    ++ bytes "S      0      4      1      1      1      1      0      5      0\n"
+    ++ bytes "S      1     30      4      1      1      0\n"
     ++ bytes "B      1      2      2      0\n"
     ++ bytes "B      2      2      2      1\n"
-    ++ bytes "S      1      1      1      1      0      3\n"
+    ++ bytes "S      2     99      1      1      1      1      0      3\n"
     ++ bytes "E      0      0\n"
 
 unfoldable pub nested-cases : List Case

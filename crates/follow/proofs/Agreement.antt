@@ -16,17 +16,19 @@ use Rattle.follow.specs.WordFollower.{wordStep, wordStepFrom, at, nothin
 use Rattle.lua51_lifter.specs.Check.{check, fine}
 use Rattle.follow.specs.Account.{Action, go, Next, Step, account}
 use Rattle.lua51_lifter.specs.Lift.{onThen, pending, statements, statementsBy}
-use Rattle.lua51_lifter.specs.Blocks.{Block, front, codeBlock, graph, entryBlock, betweenBlock, leads}
+use Rattle.lua51_lifter.specs.Blocks.{Block, no-block, leads, edgesOf, entryNils, brought, front, codeBlock}
+use Rattle.lua51_lifter.specs.Blocks.{entryBlock, betweenBlock, blocks, Named, naming, graph}
+use Rattle.lua51_lifter.specs.Blocks.{unnamed}
 use Rattle.basics.specs.Range.{only, over, sum}
 use Rattle.follow.specs.GraphFollower.{endingOf, graphStep, entryFrom, byBlocks, byGraph, nextBlock, ending}
-use Rattle.follow.specs.GraphFollower.{no-block}
+use Rattle.lua51_lifter.proofs.Naming.{said-code, said-entry, said-between}
 use Rattle.follow.proofs.Statements.{Quiet, quiet-cond, quiet-append, acts, quiet-over, acts-append}
 use Rattle.follow.proofs.Statements.{quiet-passes, Plain, quiet-ending, plain-quiet, plain-acts}
 use Rattle.follow.proofs.Ends.{Alongside, at-code, ended-test, Ended, at-between, bare-arrival, ended-set}
 use Rattle.follow.proofs.Ends.{then-lands, then-loop, ended-each, onward-edge, then-each, ended-jump}
 use Rattle.follow.proofs.Ends.{onward-arrival, ended-loop, ended-entry, ended-skip, ended-exit}
-use Rattle.ast.specs.Statement.{Stmt, set-register, nil}
-use Rattle.cfg.specs.Graph.{leader, diverted, past, blockOf, entryOf, betweenOf, entering, thenOf, isLoop, leaving}
+use Rattle.ast.specs.Statement.{Stmt}
+use Rattle.cfg.specs.Graph.{leader, diverted, past, blockOf, entryOf, betweenOf, entering, thenOf, isLoop, leaving, Edge}
 use Rattle.lua51_lifter.proofs.Captures.{leader-free, free}
 use Rattle.follow.proofs.Run.{Ran, run}
 use Rattle.follow.proofs.Words.{carried, carried-none, leftFor, left-none, left-kept, done-here, nils-plain}
@@ -58,8 +60,9 @@ paid-some p t owed a e = rw e (unfold paid in omega arith)
 
 module _ (p : Proto) where
   -- code blocks are of kind 0, and the entry behind them is of kind 1
-  past-codes : (from k n : ℕ) (rest : List Block)
-      → entryFrom n (over (λ j. cond (leader p j) (only (codeBlock p j)) []) from k ++ (entryBlock p ∷ rest)) ≡ n + sum (λ j. cond (leader p j) 1 0) from k
+  past-codes : (from k n : ℕ) (rest : List (Block Named))
+      → entryFrom n (over (λ j. cond (leader p j) (only (codeBlock naming p j)) []) from k ++ (entryBlock naming p ∷ rest))
+      ≡ n + sum (λ j. cond (leader p j) 1 0) from k
   unfolding over sum entryFrom codeBlock entryBlock
   past-codes from zero n rest = omega arith
   past-codes from (suc k) n rest = either-way (leader p from)
@@ -73,15 +76,18 @@ module _ (p : Proto) where
   starts k answers = ap (account (graphStep (graph p)) k answers) found
     where
       found : entryFrom 0 (graph p) ≡ entryOf p
-      found = unfold graph blockOf in
-          omega (arith, past-codes 0 (size p + 1) 0 (over (λ i. cond (diverted p i) (only (betweenBlock p i)) []) 0 (size p)))
+      found = unfold graph blocks blockOf in
+          omega (
+            arith,
+            past-codes 0 (size p + 1) 0 (over (λ i. cond (diverted p i) (only (betweenBlock naming p i)) []) 0 (size p)),
+          )
 
   onThen-quiet : (i : ℕ) → Quiet (onThen p i)
   unfolding onThen endingOf
   onThen-quiet i = quiet-cond (is p i TESTSET) _ _ (refl, tt) (quiet-cond (is p i FORLOOP) _ _ (refl, tt) (quiet-cond (is p i TFORLOOP) _ _ (refl, tt) tt))
 
-  front-quiet : (t : ℕ) → Quiet (front p t)
-  unfolding front
+  front-quiet : (t : ℕ) → Quiet (front unnamed p t)
+  unfolding front brought
   front-quiet t = quiet-append (cond (ltb 0 t && is p (t - 1) TESTSET) (onThen p (t - 1)) []) _
       (quiet-cond (ltb 0 t && is p (t - 1) TESTSET) _ _ (onThen-quiet (t - 1)) tt)
       (quiet-cond (eqb (entering p t) 1) _ _ (quiet-over _ 0 (size p) (λ i. quiet-cond (isLoop p i && eqb (thenOf p i) t) _ _ (onThen-quiet i) tt)) tt)
@@ -97,19 +103,32 @@ module _ (p : Proto) where
       abbrev body : List Stmt
       body = over (statements p) t (past p t - t)
 
-      code-step : graphStep (graph p) (blockOf p t) ≡ record { writes = acts (front p t ++ body); next = nextBlock (ending (front p t ++ body)) (map (leads p (past p t - 1)) (leaving p (past p t - 1) (flowAt p (past p t - 1)))) }
-      unfolding graphStep codeBlock
-      code-step = rw (code-at p no-block t (omega arith) l, ne-eqb t (size p) (λ e. omega arith))
-
-      code-writes : graphStep (graph p) (blockOf p t) .writes ≡ acts (front p t) ++ acts body
-      code-writes = rw code-step (acts-append (front p t) body)
-
-      code-next : graphStep (graph p) (blockOf p t) .next ≡ nextBlock (ending body) (map (leads p (past p t - 1)) (leaving p (past p t - 1) (flowAt p (past p t - 1))))
-      code-next = rw (code-step, quiet-ending (front p t) body (front-quiet t))
+      -- what is brought to its front
+      abbrev at-front : List Stmt
+      at-front = front unnamed p t
 
       -- the range's last word
       abbrev last : ℕ
       last = past p t - 1
+
+      -- the edges of its block
+      abbrev ways : List Edge
+      ways = map (leads p last) (leaving p last (flowAt p last))
+
+      code-step : graphStep (graph p) (blockOf p t)
+          ≡ record { writes = acts (at-front ++ body); next = nextBlock (ending (at-front ++ body)) ways }
+      unfolding graphStep graph codeBlock edgesOf
+      code-step = rw (
+        code-at naming p no-block t (omega arith) l,
+        said-code p t,
+        ne-eqb t (size p) (λ e. omega arith),
+      )
+
+      code-writes : graphStep (graph p) (blockOf p t) .writes ≡ acts at-front ++ acts body
+      code-writes = rw code-step (acts-append at-front body)
+
+      code-next : graphStep (graph p) (blockOf p t) .next ≡ nextBlock (ending body) ways
+      code-next = rw (code-step, quiet-ending at-front body (front-quiet t))
 
       range : Found p (t + 1) (past p t)
       range = past-found p (end-leader p ok) t lt
@@ -127,7 +146,7 @@ module _ (p : Proto) where
       here-free = omega (arith, leader-free p ok t (omega arith) l)
 
       abbrev Follow : Type 0
-      Follow = Follows (graphStep (graph p)) (wordStep p) (Alongside p) (blockOf p t) (owing (acts (front p t)) t)
+      Follow = Follows (graphStep (graph p)) (wordStep p) (Alongside p) (blockOf p t) (owing (acts at-front) t)
 
       -- a range through which the run goes on into the next
       through : Onward p last → Follow
@@ -137,7 +156,7 @@ module _ (p : Proto) where
           let there-free : past p t + pending p (past p t) ≡ past p t = omega (arith, leader-free p ok (past p t) (range .within) (range .leads)) in
           let written : acts body ≡ r .written = sym (append-nil (acts body)) ∙ (rw (carries-none (past p t) (range .leads), carries-none t l) at (r .said)) in
           let way : Straight (wordStep p) (r .steps) (at t nothing) (r .written) (at (past p t) nothing) = rw (here-free, there-free, leads-none t l, leads-none (past p t) (range .leads)) at (r .way) in
-          let owed = paid p t (acts (front p t)) in
+          let owed = paid p t (acts at-front) in
           let goes : graphStep (graph p) (blockOf p t) .next ≡ go (blockOf p (past p t)) = code-next ∙ rw (quiet-passes body (r .quiet)) (rw last-next at (onward-edge p ok last last-inside o)) in
           arrives (graphStep (graph p)) (wordStep p) (Alongside p)
           (omega (arith, more-le (owed .steps) (r .steps), r .moves (leader-free p ok t (omega arith) l) (omega (arith, range .from))))
@@ -169,13 +188,15 @@ module _ (p : Proto) where
           let there-free : last + pending p last ≡ last = omega arith in
           let way : Straight (wordStep p) (r .steps) (at t nothing) (r .written) at-last = rw (here-free, there-free, leads-none t l) at (r .way) in
           let before : acts (over (statements p) t (last - t)) ++ carried p last ≡ r .written = rw (carries-none t l) at (r .said) in
-          let owed = paid p t (acts (front p t)) in
+          let owed = paid p t (acts at-front) in
           record {
             steps = more (owed .steps) (r .steps);
-            acts = acts (front p t) ++ r .written;
+            acts = acts at-front ++ r .written;
             then-at = at-last;
             way = together (wordStep p) (owed .way) way;
-            writes = code-writes ∙ (ap {B = List Action} (λ (x : List Action). acts (front p t) ++ x) (written before) ∙ sym (append-assoc (acts (front p t)) (r .written) (wordStep p at-last .writes)));
+            writes = code-writes
+                ∙ (ap {B = List Action} (λ (x : List Action). acts at-front ++ x) (written before)
+                ∙ sym (append-assoc (acts at-front) (r .written) (wordStep p at-last .writes)));
             next = rw (code-next, body-split, quiet-ending (over (statements p) t (last - t)) (statements p last) (r .quiet), done-here p ok last last-inside, here) (rw e (ended (kept (leftFor p last))));
           }
         where
@@ -214,8 +235,8 @@ module _ (p : Proto) where
 
     module _ (i : ℕ) (lt : i < size p) (d : diverted p i ≡ true) where
       between-step : graphStep (graph p) (betweenOf p i) ≡ record { writes = acts (onThen p i); next = go (blockOf p (thenOf p i)) }
-      unfolding graphStep betweenBlock nextBlock
-      between-step = rw (between-at p no-block i lt d, quiet-passes (onThen p i) (onThen-quiet i))
+      unfolding graphStep graph betweenBlock nextBlock
+      between-step = rw (between-at naming p no-block i lt d, said-between p i, quiet-passes (onThen p i) (onThen-quiet i))
 
       -- the one action on the Then edge of a loop
       some-act : (a : Action) × (acts (onThen p i) ≡ only a)
@@ -228,7 +249,7 @@ module _ (p : Proto) where
           arrives (graphStep (graph p)) (wordStep p) (Alongside p)
           (paid-some p (thenOf p i) (acts (onThen p i)) (some-act .0) (some-act .1)) (owed .way)
           (ap {B = List Action} (λ (s : Step ℕ). s .writes) between-step) (ap {B = Next ℕ} (λ (s : Step ℕ). s .next) between-step)
-          (bare-arrival p (thenOf p i) (to .0) (to .1) (diverted-front p i d (to .2)))
+          (bare-arrival p (thenOf p i) (to .0) (to .1) (diverted-front unnamed p i d (to .2)))
 
     follows : (g : ℕ) (w : At) → Alongside p g w → Follows (graphStep (graph p)) (wordStep p) (Alongside p) g w
     follows g w (at-code t lt l) = code-follows t lt l (flowAt p (past p t - 1)) refl
@@ -240,17 +261,20 @@ module _ (p : Proto) where
     abbrev start-nils : List Action
     start-nils = nils (p .parameters) (p .stack - p .parameters)
 
-    abbrev entry-body : List Stmt
-    entry-body = over (λ r. only (set-register r nil)) (p .parameters) (p .stack - p .parameters)
-
     entry-step : graphStep (graph p) (entryOf p) ≡ record { writes = start-nils; next = go 0 }
-    unfolding graphStep entryBlock nextBlock
+    unfolding graphStep graph entryBlock entryNils nextBlock
     entry-step =
-        let plain : Plain entry-body = nils-plain (p .parameters) (p .stack - p .parameters) in
-        rw (entry-at p no-block, quiet-passes entry-body (plain-quiet entry-body plain), plain-acts entry-body plain, nils-are (p .parameters) (p .stack - p .parameters))
+        let plain : Plain (entryNils p) = nils-plain (p .parameters) (p .stack - p .parameters) in
+        rw (
+          entry-at naming p no-block,
+          said-entry p,
+          quiet-passes (entryNils p) (plain-quiet (entryNils p) plain),
+          plain-acts (entryNils p) plain,
+          nils-are (p .parameters) (p .stack - p .parameters),
+        )
 
     start : Alongside p 0 (at 0 nothing)
-    start = rw first-block at (bare-arrival p 0 (some-words p ok) (unfold leader in refl) (entry-front p))
+    start = rw first-block at (bare-arrival p 0 (some-words p ok) (unfold leader in refl) (entry-front unnamed p))
       where
         first-block : blockOf p 0 ≡ 0
         first-block = unfold blockOf sum in refl

@@ -21,7 +21,8 @@ use Rattle.lua51_lifter.specs.Check.{check, fine, landsInside, reaches}
 use Rattle.follow.specs.GraphFollower.{nextBlock, actions, ending, insides, endingOf, outsides, inside, passes}
 use Rattle.follow.specs.GraphFollower.{outside, bare, fold, answered}
 use Rattle.cfg.proofs.Entering.{sent, loop-cases, undiverted}
-use Rattle.lua51_lifter.specs.Blocks.{leads, front}
+use Rattle.lua51_lifter.specs.Blocks.{leads, front, brought}
+use Rattle.lua51_lifter.specs.Blocks.{unnamed}
 use Rattle.basics.specs.Range.{times, only}
 use Rattle.lua51_instruction.specs.Jump.{isWord}
 use Rattle.lua51_instruction.proofs.Targets.{target-below}
@@ -36,11 +37,11 @@ use Rattle.follow.proofs.Words.{jumped-is, test-word, Test, set-word, n
 
 -- where the two followers stand alike: at a range, whose front is owed, or on a Then edge that goes by way of a between block
 pub data Alongside (p : Proto) : ℕ → At → Type 0 where
-  at-code : (t : ℕ) → t < size p → leader p t ≡ true → Alongside p (blockOf p t) (owing (acts (front p t)) t)
+  at-code : (t : ℕ) → t < size p → leader p t ≡ true → Alongside p (blockOf p t) (owing (acts (front unnamed p t)) t)
   at-between : (i : ℕ) → i < size p → diverted p i ≡ true → Alongside p (betweenOf p i) (owing (acts (onThen p i)) (thenOf p i))
 
 module _ (p : Proto) where
-  pub bare-arrival : (t : ℕ) → t < size p → leader p t ≡ true → front p t ≡ [] → Alongside p (blockOf p t) (at t nothing)
+  pub bare-arrival : (t : ℕ) → t < size p → leader p t ≡ true → front unnamed p t ≡ [] → Alongside p (blockOf p t) (at t nothing)
   unfolding flatMap
   bare-arrival t lt l h = rw h at (at-code t lt l)
 
@@ -105,7 +106,7 @@ module _ (p : Proto) where
     edge-arrival : (t : ℕ) → t < size p → leader p (i + 1) ≡ true → leader p t ≡ true → 1 ≤ sent p i t
         → (isLoop p i ≡ true → thenOf p i ≡ t → 2 ≤ sent p i t) → (0 < t → opcode p (t - 1) ≡ numberOf TESTSET → ⊥)
         → Alongside p (blockOf p t) (at t nothing)
-    edge-arrival t l h g e twice unset = bare-arrival t l g (plain-front p i t lt h e twice unset)
+    edge-arrival t l h g e twice unset = bare-arrival t l g (plain-front unnamed p i t lt h e twice unset)
 
     -- the words behind a test
     test-two : (f : Flow) → flowAt p i ≡ f → landsInside p i f ≡ ltb (i + 2) (size p) → i + 2 < size p
@@ -145,9 +146,10 @@ module _ (p : Proto) where
         rw (then-next i c) (omega (arith, test-two generic-loop e refl), test-next generic-loop e refl, unset-next p i (flow-not p i generic-loop TESTSET e refl)))
 
     then-arrival : isLoop p i ≡ true → Alongside p (cond (diverted p i) (betweenOf p i) (blockOf p (thenOf p i))) (owing (acts (onThen p i)) (thenOf p i))
+    unfolding brought
     then-arrival h = either-way (diverted p i)
         (λ d. rw d (at-between i lt d))
-        (λ d. rw d (rw (loop-front p i lt h d) at (at-code (thenOf p i) (then-lands h .0) (then-lands h .1))))
+        (λ d. rw d (rw (loop-front unnamed p i lt h d) at (at-code (thenOf p i) (then-lands h .0) (then-lands h .1))))
 
     -- the Else edge of a test or of TFORLOOP
     else-arrival : (f : Flow) → flowAt p i ≡ f → landsInside p i f ≡ ltb (i + 2) (size p)
@@ -187,14 +189,15 @@ module _ (p : Proto) where
         (test-word p ok i lt k (flow-opcodes p i test e)))
 
     pub ended-set : (k : ℕ) → flowAt p i ≡ test-set → Ended i k test-set
-    unfolding leads leaving landsInside claims reaches
+    unfolding leads leaving landsInside claims reaches brought
     ended-set k e =
         let c : opcode p i ≡ numberOf TESTSET = eqb-true (opcode p i) (numberOf TESTSET) (flow-opcodes p i test-set e) in
         let n : isLoop p i ≡ false = unlooped i test-set e refl in
-        let here : Alongside p (blockOf p (i + 1)) (owing (acts (front p (i + 1))) (i + 1)) = at-code (i + 1) (omega (arith, test-two test-set e refl)) (test-next test-set e refl) in
+        let here : Alongside p (blockOf p (i + 1)) (owing (acts (front unnamed p (i + 1))) (i + 1)) =
+        at-code (i + 1) (omega (arith, test-two test-set e refl)) (test-next test-set e refl) in
         rw (undiverted p i n)
         (branch-alike i k (opAt p i) (owing (only (does (set-register (A p i) (register (B p i))))) (i + 1)) (blockOf p (i + 1)) (blockOf p (i + 2))
-        (rw (set-front p i lt c, then-set i c) at here)
+        (rw (set-front unnamed p i lt c, then-set i c) at here)
         (else-arrival test-set e refl refl refl refl (λ q. clash q n))
         (set-word p ok i lt k c))
 

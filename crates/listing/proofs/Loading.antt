@@ -3,7 +3,7 @@
 use Prim.Native.Nat.{ℕ, _≤_, _<_, min}
 use native.Mathlib.Omega.{arith}
 use mathlib.Core.Bool.{true}
-use mathlib.Core.List.{List, []}
+use mathlib.Core.List.{List, [], _++_, flatMap}
 use mathlib.Core.Path.{_≡_, refl, sym, ap, _∙_}
 use lib.ListN.{length, take}
 use borrow.Author.Tests.{lt-leb, le-leb}
@@ -23,7 +23,9 @@ use Rattle.lua51_function.proofs.WholeChunk.{whole-chunk}
 use Rattle.lua51_deserializer.proofs.Places.{places-length}
 use Rattle.lua51_lifter.specs.Blocks.{graph}
 use Rattle.lua51_lifter.specs.Check.{check, fine}
-use Rattle.lua51_lifter.specs.Listing.{constantLines, blockLines, listing}
+use Rattle.lua51_lifter.specs.Listing.{itemLine, functionItem, constantItems, allBlockItems, functionItems, namedNumbers, items, constantLines, blockLines}
+use Rattle.lua51_lifter.specs.Listing.{listing}
+use Rattle.lua51_statements.proofs.Pieces.{pieces-append}
 use Rattle.lua51_constants.specs.Constants.{functionLine}
 use Rattle.lua51_constants.proofs.ConstantLines.{function-line}
 use Rattle.block_lines.specs.Lines.{Held}
@@ -66,9 +68,17 @@ held {s} {f} h ok = record { fine = ok; few = h .limits .words; kinds = protoAt 
 pub listed : {p : Proto} {h : Head} {ws ks ns us : List ℕ} → Stands p h ws ks ns us → (vs : List Value) (o : Out) {o₁ o₂ o₃ : Out}
     → o₁ ≡ puts o (functionLine h) → o₂ ≡ puts o₁ (constantLines 0 vs) → o₃ ≡ puts o₂ (blockLines 0 (graph p))
     → o₃ ≡ puts o (listing p vs)
-unfolding listing
-listed st vs o head constants blocks =
-    rw (function-line st, puts-append, puts-append, ← head, ← constants) blocks
+unfolding listing items functionItems flatMap
+listed {p} st vs o head constants blocks =
+    rw (
+      puts-append o (itemLine (functionItem p)) (flatMap itemLine (constantItems 0 vs ++ allBlockItems namedNumbers 0 (graph p))),
+      pieces-append itemLine (constantItems 0 vs) (allBlockItems namedNumbers 0 (graph p)),
+      puts-append (puts o (itemLine (functionItem p))) (constantLines 0 vs) (blockLines 0 (graph p)),
+      function-line st,
+      ← head,
+      ← constants,
+    )
+    blocks
 
 -- ------------------------------------------------------------ the whole or nothing
 

@@ -144,7 +144,7 @@ fn put_in(
 }
 
 // Prints the listing of a function of few words.
-fn put_small(
+fn put_short(
     out: &mut [u8],
     s: &[u8],
     functions: Functions,
@@ -174,7 +174,7 @@ fn put_small(
 }
 
 // Prints the listing of a function of any size.
-fn put_large(
+fn put_long(
     out: &mut [u8],
     s: &[u8],
     functions: Functions,
@@ -216,7 +216,7 @@ pub fn put_function(
     ensures { λ r. ⌜ Lists (now (s .entry)) functions f whole (now (run .entry)) (now (out .entry)) (now (out .exit)) r ⌝ }
 {
     if word_count(s, functions, f) <= FEW_WORDS {
-        return put_small(out, s, functions, f, whole, run);
+        return put_short(out, s, functions, f, whole, run);
     }
-    put_large(out, s, functions, f, whole, run)
+    put_long(out, s, functions, f, whole, run)
 }

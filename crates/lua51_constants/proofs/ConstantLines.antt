@@ -13,7 +13,7 @@ use lib.Seq.{drop-cons, take-all}
 use borrow.Author.Tests.{ltb-true, ltb-false}
 use Rattle.lines.specs.Line.{line, line-feed, column, letter-F, letter-K}
 use Rattle.lines.specs.Out.{Out, puts}
-use Rattle.lines.proofs.Puts.{puts-append, puts-line}
+use Rattle.lines.proofs.Puts.{puts-append, puts-line, puts-more}
 use Rattle.lua51_instruction.specs.Proto.{Proto}
 use Rattle.lua51_value.specs.Value.{Value, Text, kindOf, kind-nil, kind-boolean, kind-number, kind-string, valueAt}
 use Rattle.lua51_deserializer.specs.Chunk.{Place, constantsAt, protoAt}
@@ -29,17 +29,11 @@ use Rattle.lua51_value.proofs.Ends.{drop-within}
 use Rattle.lua51_deserializer.proofs.FieldCases.{boolean-small}
 use Rattle.basics.proofs.Tests.{either-way}
 use Rattle.lua51_function.proofs.WholeFunction.{constants-count}
-use Rattle.lua51_lifter.specs.Listing.{value, constantLines}
+use Rattle.lua51_lifter.specs.Listing.{value, constantItems, constantLines}
 use Rattle.lua51_constants.specs.Constants.{functionLine, numbersOf, constantLine, sizeOf, readAt, short, placeLines}
 use Rattle.lua51_constants.specs.Constants.{PrintsConstant, AreRead}
 
 -- ------------------------------------------------------------ number by number
-
--- the first of some numbers, then the others
-puts-more : (o : Out) (x : ℕ) (xs : List ℕ)
-    → puts o (flatMap column (x ∷ xs)) ≡ puts (puts o (column x)) (flatMap column xs)
-unfolding flatMap
-puts-more o x xs = puts-append o (column x) (flatMap column xs)
 
 -- one number
 puts-one : (o : Out) (x : ℕ) → puts o (flatMap column (x ∷ [])) ≡ puts o (column x)
@@ -187,7 +181,7 @@ module _ (s places : List ℕ) (i : ℕ) (o : Out) where
 
     pub constants-turn : (vs : List Value) → AreRead s places vs
         → puts o (constantLines i (drop i vs)) ≡ puts o′ (constantLines (i + 1) (drop (i + 1) vs))
-    unfolding constantLines constantLine numbersOf
+    unfolding constantItems flatMap constantLine numbersOf
     constants-turn vs are =
         let (j, read) = are .constant i h in
         let index : short i ≡ i = omega arith in
@@ -202,7 +196,7 @@ module _ (s places : List ℕ) (i : ℕ) (o : Out) where
 
   pub constants-done : (vs : List Value) → AreRead s places vs → length places ≤ i
       → puts o (constantLines i (drop i vs)) ≡ o
-  unfolding constantLines
+  unfolding constantItems flatMap
   constants-done vs are h = lines-done constantLines constantLine values.Nil o vs i refl (omega arith)
 
 -- ------------------------------------------------------------ a function that is held

@@ -21,9 +21,10 @@ use Rattle.lua51_lifter.specs.Check.{missing-results, allCaptures, reach
 use Rattle.ast.specs.Statement.{count, expr, exprs, tailNumbers, run, registers}
 use Rattle.lua51_lifter.specs.Lift.{rk, condition, concatenated, captures, taken, openResults, statementsBy, pending}
 use Rattle.lua51_lifter.specs.Lift.{statements, onThen}
-use Rattle.lua51_lifter.specs.Blocks.{front, leads, codeBlock, entryBlock, betweenBlock, graph}
-use Rattle.lua51_lifter.specs.Listing.{value, constantLines, statementLine, edgeLine, blockLine, blockLines}
-use Rattle.lua51_lifter.specs.Listing.{listing}
+use Rattle.lua51_lifter.specs.Blocks.{leads, edgesOf, entryNils, stated, brought, front, codeBlock, entryBlock}
+use Rattle.lua51_lifter.specs.Blocks.{betweenBlock, blocks, naming, graph}
+use Rattle.lua51_lifter.specs.Listing.{value, constantItems, blockItems, allBlockItems, functionItems, namedNumbers}
+use Rattle.lua51_lifter.specs.Listing.{items, listing}
 
 -- the words; those at 45 and 46 are the captures of the closure before them
 sample-words : List ℕ
@@ -110,53 +111,53 @@ sample-listing =
     -- block 0
     ++ bytes "B      0      0     23      0\n"
     -- 0: MOVE 1 0 0
-    ++ bytes "S      1      1      1      1      1      1      0\n"
+    ++ bytes "S      0      0      1      1      1      1      1      1      0\n"
     -- 1: LOADK 1 1
-    ++ bytes "S      1      1      1      1      1      2      1\n"
+    ++ bytes "S      1      1      1      1      1      1      1      2      1\n"
     -- 2: LOADBOOL 1 1 0
-    ++ bytes "S      1      1      1      1      1      4      1\n"
+    ++ bytes "S      2      2      1      1      1      1      1      4      1\n"
     -- 3: LOADNIL 1 2 0
-    ++ bytes "S      1      1      1      1      1      3\n"
-    ++ bytes "S      1      1      1      1      2      3\n"
+    ++ bytes "S      3      3      1      1      1      1      1      3\n"
+    ++ bytes "S      3      3      1      1      1      1      2      3\n"
     -- 4: GETUPVAL 1 0 0
-    ++ bytes "S      1      1      1      1      1      5      0\n"
+    ++ bytes "S      4      4      1      1      1      1      1      5      0\n"
     -- 5: GETGLOBAL 1 0
-    ++ bytes "S      1      1      1      1      1      6      0\n"
+    ++ bytes "S      5      5      1      1      1      1      1      6      0\n"
     -- 6: GETTABLE 1 0 257
-    ++ bytes "S      1      1      1      1      1      7      1      0      2      1\n"
+    ++ bytes "S      6      6      1      1      1      1      1      7      1      0      2      1\n"
     -- 7: SETGLOBAL 1 0
-    ++ bytes "S      1      1      1      6      0      1      1\n"
+    ++ bytes "S      7      7      1      1      1      6      0      1      1\n"
     -- 8: SETUPVAL 1 0 0
-    ++ bytes "S      1      1      1      5      0      1      1\n"
+    ++ bytes "S      8      8      1      1      1      5      0      1      1\n"
     -- 9: SETTABLE 1 2 256
-    ++ bytes "S      1      1      1      7      1      1      1      2      2      0\n"
+    ++ bytes "S      9      9      1      1      1      7      1      1      1      2      2      0\n"
     -- 10: NEWTABLE 1 0 0
-    ++ bytes "S      1      1      1      1      1     13\n"
+    ++ bytes "S     10     10      1      1      1      1      1     13\n"
     -- 11: SELF 1 0 256
-    ++ bytes "S      1      1      1      1      2      1      0\n"
-    ++ bytes "S      1      1      1      1      1      7      1      0      2      0\n"
+    ++ bytes "S     11     11      1      1      1      1      2      1      0\n"
+    ++ bytes "S     11     11      1      1      1      1      1      7      1      0      2      0\n"
     -- 12: ADD 1 0 257
-    ++ bytes "S      1      1      1      1      1      9      1      1      0      2      1\n"
+    ++ bytes "S     12     12      1      1      1      1      1      9      1      1      0      2      1\n"
     -- 13: SUB 1 0 257
-    ++ bytes "S      1      1      1      1      1      9      2      1      0      2      1\n"
+    ++ bytes "S     13     13      1      1      1      1      1      9      2      1      0      2      1\n"
     -- 14: MUL 1 0 257
-    ++ bytes "S      1      1      1      1      1      9      3      1      0      2      1\n"
+    ++ bytes "S     14     14      1      1      1      1      1      9      3      1      0      2      1\n"
     -- 15: DIV 1 0 257
-    ++ bytes "S      1      1      1      1      1      9      4      1      0      2      1\n"
+    ++ bytes "S     15     15      1      1      1      1      1      9      4      1      0      2      1\n"
     -- 16: MOD 1 0 257
-    ++ bytes "S      1      1      1      1      1      9      5      1      0      2      1\n"
+    ++ bytes "S     16     16      1      1      1      1      1      9      5      1      0      2      1\n"
     -- 17: POW 1 0 257
-    ++ bytes "S      1      1      1      1      1      9      6      1      0      2      1\n"
+    ++ bytes "S     17     17      1      1      1      1      1      9      6      1      0      2      1\n"
     -- 18: UNM 1 0 0
-    ++ bytes "S      1      1      1      1      1      8      2      1      0\n"
+    ++ bytes "S     18     18      1      1      1      1      1      8      2      1      0\n"
     -- 19: NOT 1 0 0
-    ++ bytes "S      1      1      1      1      1      8      1      1      0\n"
+    ++ bytes "S     19     19      1      1      1      1      1      8      1      1      0\n"
     -- 20: LEN 1 0 0
-    ++ bytes "S      1      1      1      1      1      8      3      1      0\n"
+    ++ bytes "S     20     20      1      1      1      1      1      8      3      1      0\n"
     -- 21: CONCAT 1 2 4
-    ++ bytes "S      1      1      1      1      1      9      7      1      2      9      7      1      3      1      4\n"
+    ++ bytes "S     21     21      1      1      1      1      1      9      7      1      2      9      7      1      3      1      4\n"
     -- 22: EQ 1 0 257
-    ++ bytes "S      3      9      8      1      0      2      1\n"
+    ++ bytes "S     22     23      3      9      8      1      0      2      1\n"
     ++ bytes "E      1      1\n"
     ++ bytes "E      2      2\n"
     -- block 1
@@ -165,7 +166,7 @@ sample-listing =
     -- block 2
     ++ bytes "B      2     24     25      0\n"
     -- 24: LT 0 0 257
-    ++ bytes "S      3      8      1      9     10      1      0      2      1\n"
+    ++ bytes "S     24     24      3      8      1      9     10      1      0      2      1\n"
     ++ bytes "E      1      3\n"
     ++ bytes "E      2      4\n"
     -- block 3
@@ -174,7 +175,7 @@ sample-listing =
     -- block 4
     ++ bytes "B      4     26     27      0\n"
     -- 26: LE 1 0 257
-    ++ bytes "S      3      9     11      1      0      2      1\n"
+    ++ bytes "S     26     25      3      9     11      1      0      2      1\n"
     ++ bytes "E      1      5\n"
     ++ bytes "E      2      6\n"
     -- block 5
@@ -183,7 +184,7 @@ sample-listing =
     -- block 6
     ++ bytes "B      6     28     29      0\n"
     -- 28: TEST 1 0 0
-    ++ bytes "S      3      8      1      1      1\n"
+    ++ bytes "S     28     26      3      8      1      1      1\n"
     ++ bytes "E      1      7\n"
     ++ bytes "E      2      8\n"
     -- block 7
@@ -192,87 +193,87 @@ sample-listing =
     -- block 8
     ++ bytes "B      8     30     31      0\n"
     -- 30: TESTSET 1 0 1
-    ++ bytes "S      3      1      0\n"
+    ++ bytes "S     30     27      3      1      0\n"
     ++ bytes "E      1      9\n"
     ++ bytes "E      2     10\n"
     -- block 9
     ++ bytes "B      9     31     32      0\n"
     -- in front, of TESTSET at 30
-    ++ bytes "S      1      1      1      1      1      1      0\n"
+    ++ bytes "S     30     27      1      1      1      1      1      1      0\n"
     ++ bytes "E      0     10\n"
     -- block 10
     ++ bytes "B     10     32     39      0\n"
     -- 32: CALL 1 2 3
-    ++ bytes "S      1      2      1      1      1      1      2     14     10      1      1      1      1      2\n"
+    ++ bytes "S     32     28      1      2      1      1      1      1      2     14     10      1      1      1      1      2\n"
     -- 33: CALL 1 1 1
-    ++ bytes "S      2     10      1      1      0\n"
+    ++ bytes "S     33     28      2     10      1      1      0\n"
     -- 36: SETLIST 0 0 2
-    ++ bytes "S      7      0     51      0      1     10      1      1      1     11\n"
+    ++ bytes "S     36     34      7      0     51      0      1     10      1      1      1     11\n"
     -- 37: SETLIST 0 2 1
-    ++ bytes "S      7      0      1      2      1      1      1      2      0\n"
+    ++ bytes "S     37     34      7      0      1      2      1      1      1      2      0\n"
     -- 38: FORPREP 2 40
-    ++ bytes "S      5      2      3      4\n"
+    ++ bytes "S     38     32      5      2      3      4\n"
     ++ bytes "E      0     12\n"
     -- block 11
     ++ bytes "B     11     39     40      0\n"
     -- in front, of FORLOOP at 40
-    ++ bytes "S      1      1      1      1      5      1      2\n"
+    ++ bytes "S     40     31      1      1      1      1      5      1      2\n"
     -- 39: MOVE 5 0 0
-    ++ bytes "S      1      1      1      1      5      1      0\n"
+    ++ bytes "S     39      0      1      1      1      1      5      1      0\n"
     ++ bytes "E      0     12\n"
     -- block 12
     ++ bytes "B     12     40     41      0\n"
     -- 40: FORLOOP 2 39
-    ++ bytes "S      6      2      3      4\n"
+    ++ bytes "S     40     31      6      2      3      4\n"
     ++ bytes "E      1     11\n"
     ++ bytes "E      2     13\n"
     -- block 13
     ++ bytes "B     13     41     42      0\n"
     -- 41: TFORLOOP 1 0 2
-    ++ bytes "S      1      2      1      1      4      1      5     10      1      1      2      1      2      1      3\n"
-    ++ bytes "S      3      9      9      1      4      3\n"
+    ++ bytes "S     41     33      1      2      1      1      4      1      5     10      1      1      2      1      2      1      3\n"
+    ++ bytes "S     41     33      3      9      9      1      4      3\n"
     ++ bytes "E      1     14\n"
     ++ bytes "E      2     15\n"
     -- block 14
     ++ bytes "B     14     42     43      0\n"
     -- in front, of TFORLOOP at 41
-    ++ bytes "S      1      1      1      1      3      1      4\n"
+    ++ bytes "S     41     33      1      1      1      1      3      1      4\n"
     ++ bytes "E      0     15\n"
     -- block 15
     ++ bytes "B     15     43     49      0\n"
     -- 43: CLOSE 3 0 0
-    ++ bytes "S      8      5      3      4      5      6      7\n"
+    ++ bytes "S     43     35      8      5      3      4      5      6      7\n"
     -- 44: CLOSURE 3 0
-    ++ bytes "S      1      1      1      1      3     12      1      2      1      1      5      0\n"
+    ++ bytes "S     44     36      1      1      1      1      3     12      1      2      1      1      5      0\n"
     -- 47: VARARG 2 2 0
-    ++ bytes "S      1      1      1      1      2     14     11\n"
+    ++ bytes "S     47     37      1      1      1      1      2     14     11\n"
     -- 48: LOADBOOL 1 0 1
-    ++ bytes "S      1      1      1      1      1      4      0\n"
+    ++ bytes "S     48      2      1      1      1      1      1      4      0\n"
     ++ bytes "E      0     17\n"
     -- block 16
     ++ bytes "B     16     49     50      0\n"
     -- 49: LOADBOOL 1 1 0
-    ++ bytes "S      1      1      1      1      1      4      1\n"
+    ++ bytes "S     49      2      1      1      1      1      1      4      1\n"
     ++ bytes "E      0     17\n"
     -- block 17
     ++ bytes "B     17     50     52      0\n"
     -- 51: RETURN 1 0 0
-    ++ bytes "S      4      1     10      1      1      0\n"
+    ++ bytes "S     51     30      4      1     10      1      1      0\n"
     -- block 18
     ++ bytes "B     18     52     53      0\n"
     -- 52: RETURN 0 1 0
-    ++ bytes "S      4      0\n"
+    ++ bytes "S     52     30      4      0\n"
     -- block 19
     ++ bytes "B     19     53     53      0\n"
     -- the entry block
     ++ bytes "B     20     53     53      1\n"
-    ++ bytes "S      1      1      1      1      1      3\n"
-    ++ bytes "S      1      1      1      1      2      3\n"
-    ++ bytes "S      1      1      1      1      3      3\n"
-    ++ bytes "S      1      1      1      1      4      3\n"
-    ++ bytes "S      1      1      1      1      5      3\n"
-    ++ bytes "S      1      1      1      1      6      3\n"
-    ++ bytes "S      1      1      1      1      7      3\n"
+    ++ bytes "S     53     99      1      1      1      1      1      3\n"
+    ++ bytes "S     53     99      1      1      1      1      2      3\n"
+    ++ bytes "S     53     99      1      1      1      1      3      3\n"
+    ++ bytes "S     53     99      1      1      1      1      4      3\n"
+    ++ bytes "S     53     99      1      1      1      1      5      3\n"
+    ++ bytes "S     53     99      1      1      1      1      6      3\n"
+    ++ bytes "S     53     99      1      1      1      1      7      3\n"
     ++ bytes "E      0      0\n"
 
 sample-accepted : check sample ≡ fine
@@ -283,8 +284,9 @@ sample-accepted = refl
 sample-listed : listing sample sample-constants ≡ sample-listing
 unfolding targetOf flatMap digits decimal column line bytes over sum times opOf row rowOf claims leader blockOf leaderFrom past
     leaving exits entering isLoop thenOf diverted betweenOf count expr exprs tailNumbers run registers rk condition
-    concatenated captures taken openResults statementsBy pending statements onThen front leads codeBlock entryBlock
-    betweenBlock graph kindOf value constantLines statementLine edgeLine blockLine blockLines listing sample sample-words sample-constants sample-listing
+    concatenated captures taken openResults statementsBy pending statements onThen leads edgesOf entryNils stated brought front codeBlock
+    entryBlock betweenBlock blocks naming graph kindOf value constantItems blockItems allBlockItems functionItems
+    namedNumbers items listing sample sample-words sample-constants sample-listing
 sample-listed = refl
 
 -- ------------------------------------------------------------ a between block
@@ -309,22 +311,23 @@ onward-listing : List ℕ
 onward-listing =
     bytes "F      0      3      0      4\n"
     ++ bytes "B      0      0      1      0\n"
-    ++ bytes "S      6      0      1      2\n"
+    ++ bytes "S      0     31      6      0      1      2\n"
     ++ bytes "E      1      4\n"
     ++ bytes "E      2      1\n"
     ++ bytes "B      1      1      2      0\n"
-    ++ bytes "S      4      0\n"
+    ++ bytes "S      1     30      4      0\n"
     ++ bytes "B      2      2      2      0\n"
     ++ bytes "B      3      2      2      1\n"
-    ++ bytes "S      1      1      1      1      3      3\n"
+    ++ bytes "S      2     99      1      1      1      1      3      3\n"
     ++ bytes "E      0      0\n"
     ++ bytes "B      4      2      2      2\n"
-    ++ bytes "S      1      1      1      1      3      1      0\n"
+    ++ bytes "S      0     31      1      1      1      1      3      1      0\n"
     ++ bytes "E      0      1\n"
 
 onward-listed : listing onward [] ≡ onward-listing
 unfolding targetOf flatMap digits decimal column line bytes over sum times opOf row rowOf claims leader blockOf leaderFrom past
     leaving exits entering isLoop thenOf diverted betweenOf count expr exprs tailNumbers run registers rk condition
-    concatenated captures taken openResults statementsBy pending statements onThen front leads codeBlock entryBlock
-    betweenBlock graph kindOf value constantLines statementLine edgeLine blockLine blockLines listing onward onward-listing
+    concatenated captures taken openResults statementsBy pending statements onThen leads edgesOf entryNils stated brought front codeBlock
+    entryBlock betweenBlock blocks naming graph kindOf value constantItems blockItems allBlockItems functionItems
+    namedNumbers items listing onward onward-listing
 onward-listed = refl

@@ -1,6 +1,11 @@
 pub mod Verdicts
 pub mod Accepted
 pub mod Captures
+pub mod Ranges
 pub mod Blocks
 pub mod Fronts
+pub mod Naming
+pub mod Columns
+pub mod Tails
+pub mod WordBehind
 pub mod Examples

@@ -1,17 +1,17 @@
 -- Every run of an accepted function fits a buffer of 4,096 numbers. Assumes nothing.
 use Prim.Native.Nat.{ℕ, zero, suc, _+_, _-_, _*_, _≤_, _<_}
 use mathlib.Core.Bool.{Bool, true, false, cond}
-use mathlib.Core.Path.{_≡_, refl, ap, _∙_}
+use mathlib.Core.Path.{_≡_, refl, sym, ap, _∙_}
 use mathlib.Core.List.{List, [], _∷_, _++_, append-nil, flatMap}
 use native.Mathlib.Omega.{arith}
 use lib.Dec.{eqb, ltb}
 use lib.ListN.{length, length-append}
-use borrow.Author.Tests.{eqb-true, eqb-false, eq-eqb}
-use Rattle.lua51_instruction.specs.Word.{Op, MOVE, LOADK, LOADBOOL, LOADNIL, GETUPVAL, GETGLOBAL, GETTABLE, SETGLOBAL, SETUPVAL, SETTABLE, NEWTABLE, SELF, ADD, SUB, MUL, DIV, MOD, POW, UNM, NOT, LEN, CONCAT, JMP, EQ, LT, LE, TEST, TESTSET, CALL, TAILCALL, RETURN, FORLOOP, FORPREP, TFORLOOP, SETLIST, CLOSE, CLOSURE, VARARG, UNKNOWN, opOf, numberOf}
+use borrow.Author.Tests.{eqb-true, eqb-false}
+use Rattle.lua51_instruction.specs.Word.{Op, MOVE, LOADK, LOADBOOL, LOADNIL, GETUPVAL, GETGLOBAL, GETTABLE, SETGLOBAL, SETUPVAL, SETTABLE, NEWTABLE, SELF, ADD, SUB, MUL, DIV, MOD, POW, UNM, NOT, LEN, CONCAT, JMP, EQ, LT, LE, TEST, TESTSET, CALL, TAILCALL, RETURN, FORLOOP, FORPREP, TFORLOOP, SETLIST, CLOSE, CLOSURE, VARARG, UNKNOWN, numberOf}
 use Rattle.basics.specs.Range.{over, only}
 use Rattle.lua51_instruction.specs.Proto.{Proto, is, size, opcode, opAt, A, B, C, closureOf, capturesOf}
 use Rattle.basics.proofs.Tests.{either-way}
-use Rattle.lua51_instruction.proofs.Table.{allBelow, all-below}
+use Rattle.lua51_instruction.proofs.Table.{op-number}
 use Rattle.ast.specs.Statement.{Stmt, Expr, register, constant, index, binary, unary, select, vararg, call, nil, op-not, []ᵉ, one, registers, close, assign, set-register, if-statement, count, expr, exprs, run, tailNumbers, Tail, no-tail, open-tail, set-list}
 use Rattle.lua51_lifter.specs.Check.{check, fine, user}
 use Rattle.lua51_lifter.specs.Lift.{pending, statements, onThen, operation, comparison, rk, condition, concatenated, captures, openResults, taken, callWith, tailFor, statementsBy}
@@ -19,6 +19,7 @@ use Rattle.lua51_statements.specs.Lines.{lineWithin, ownStatements}
 use Rattle.lua51_runs.specs.Runs.{runAt, listed}
 use Rattle.lua51_calls.specs.Calls.{below, counted}
 use Rattle.lua51_lifter.proofs.Accepted.{user-opener, opcode-known}
+use Rattle.lua51_lifter.proofs.Tails.{user-call, user-return, user-list}
 use Rattle.basics.proofs.Range.{over-length, over-at}
 use Rattle.lua51_runs.proofs.Assigned.{set-numbers, assign-numbers, list-numbers}
 use Rattle.lua51_runs.proofs.Captured.{closure-numbers, first-capture}
@@ -26,6 +27,7 @@ use Rattle.lua51_statements.proofs.Nils.{line-fits}
 use Rattle.lua51_statements.proofs.Pieces.{pieces-append}
 use Rattle.lua51_calls.proofs.Open.{taken-closed, taken-open, tail-numbers}
 use Rattle.lua51_lister.proofs.Fits.{registers-length, open-length}
+use Rattle.lua51_lifter.specs.Blocks.{stated, brought, name, naming}
 use Rattle.lua51_lifter.specs.Listing.{statementLine}
 
 -- the numbers of a buffer that holds every run
@@ -48,13 +50,13 @@ fit-two s t h g zero lt = h
 fit-two s t h g (suc zero) lt = g
 fit-two s t h g (suc (suc k)) lt = absurd (omega arith)
 
--- where each fits, each line is printed whole
-fit-lines : (n : ℕ) → room ≤ n → (ss : List Stmt) → Fit ss → flatMap (lineWithin n) ss ≡ flatMap statementLine ss
-unfolding flatMap
-fit-lines n h [] f = refl
-fit-lines n h (s ∷ ss) f =
+-- where each fits, each line is printed whole, whatever word i and opcode o they name
+fit-lines : (n : ℕ) → room ≤ n → (i o : ℕ) (ss : List Stmt) → Fit ss → flatMap (lineWithin n) (naming i o ss) ≡ flatMap statementLine (naming i o ss)
+unfolding naming flatMap
+fit-lines n h i o [] f = refl
+fit-lines n h i o (s ∷ ss) f =
     let first : length (run s) ≤ room = f 0 (omega arith) in
-    rw (line-fits n s (omega arith), fit-lines n h ss (λ k lt. f (suc k) (omega arith)))
+    rw (line-fits n (name i o s) (omega arith), fit-lines n h i o ss (λ k lt. f (suc k) (omega arith)))
 
 fit-cond : (b : Bool) (xs ys : List Stmt) → (b ≡ true → Fit xs) → (b ≡ false → Fit ys) → Fit (cond b xs ys)
 fit-cond true xs ys f g = f refl
@@ -87,14 +89,6 @@ condition-length flag x = go (eqb flag 0)
     go : (b : Bool) → length (expr (cond b (unary op-not x) x)) ≤ 2 + length (expr x)
     go true = omega arith
     go false = omega arith
-
-all-back : allBelow (λ m. eqb m (numberOf (opOf m))) 38 ≡ true
-unfolding opOf
-all-back = refl
-
--- an opcode's number is that of its name
-number-back : (n : ℕ) → n < 38 → n ≡ numberOf (opOf n)
-number-back n lt = eqb-true n (numberOf (opOf n)) (all-below (λ m. eqb m (numberOf (opOf m))) 38 n all-back lt)
 
 -- ---- lengths of statements
 
@@ -147,19 +141,6 @@ module _ (p : Proto) (ok : check p ≡ fine) (i : ℕ) (lt : i < size p) (stack 
   unfolding expr
   call-length u = omega (arith, taken-length (A p i + 1) u)
 
-  -- a user by its opcode
-  user-call : opcode p i ≡ numberOf CALL → B p i ≡ 0 → user p i ≡ true
-  unfolding user
-  user-call n b = rw (n, eq-eqb (B p i) 0 b)
-
-  user-return : opcode p i ≡ numberOf RETURN → B p i ≡ 0 → user p i ≡ true
-  unfolding user
-  user-return n b = rw (n, eq-eqb (B p i) 0 b)
-
-  user-list : opcode p i ≡ numberOf SETLIST → B p i ≡ 0 → user p i ≡ true
-  unfolding user
-  user-list n b = rw (n, eq-eqb (B p i) 0 b)
-
   fit-operation : (o : ℕ) → Fit (operation p i o)
   fit-operation o = fit-one _ (omega (arith, set-length (A p i) (binary o (rk (B p i)) (rk (C p i))), operands-length o (B p i) (C p i)))
 
@@ -210,10 +191,10 @@ module _ (p : Proto) (ok : check p ≡ fine) (i : ℕ) (lt : i < size p) (stack 
   fits-by CALL n =
       fit-cond (eqb (C p i) 0) _ _ (λ e. fit-none)
       (λ e. fit-cond (eqb (C p i) 1) _ _
-      (λ d. fit-one _ (omega (arith, call-length (user-call n))))
-      (λ d. fit-one _ (fit-lefts (A p i) (C p i - 1) (select (callWith p i (tailFor p i))) (omega arith) (omega (arith, call-length (user-call n))))))
+      (λ d. fit-one _ (omega (arith, call-length (user-call p i n))))
+      (λ d. fit-one _ (fit-lefts (A p i) (C p i - 1) (select (callWith p i (tailFor p i))) (omega arith) (omega (arith, call-length (user-call p i n))))))
   fits-by TAILCALL n = fit-none
-  fits-by RETURN n = fit-one _ (omega (arith, taken-length (A p i) (user-return n)))
+  fits-by RETURN n = fit-one _ (omega (arith, taken-length (A p i) (user-return p i n)))
   fits-by FORLOOP n = fit-one _ (omega arith)
   fits-by FORPREP n = fit-one _ (omega arith)
   fits-by TFORLOOP n =
@@ -222,7 +203,7 @@ module _ (p : Proto) (ok : check p ≡ fine) (i : ℕ) (lt : i < size p) (stack 
       (omega arith)
   fits-by SETLIST n =
       fit-cond (eqb (B p i) 0) _ _
-      (λ e. fit-one _ (omega (arith, list-length (A p i) (C p i) (A p (i - 1) - (A p i + 1)) (open-tail (openResults p (i - 1))), open-short (user-list n (eqb-true (B p i) 0 e)))))
+      (λ e. fit-one _ (omega (arith, list-length (A p i) (C p i) (A p (i - 1) - (A p i + 1)) (open-tail (openResults p (i - 1))), open-short (user-list p i n (eqb-true (B p i) 0 e)))))
       (λ e. fit-one _ (omega (arith, list-length (A p i) (C p i) (B p i) no-tail)))
   fits-by CLOSE n = fit-one _ (omega (arith, over-length (λ r. r) (A p i) (p .stack - A p i)))
   fits-by CLOSURE n = fit-one _ (omega (arith, ap length (closure-numbers (A p i) (closureOf p i) (captures p i (capturesOf p i))), captures-length p i (capturesOf p i)))
@@ -233,32 +214,32 @@ module _ (p : Proto) (ok : check p ≡ fine) (i : ℕ) (lt : i < size p) (stack 
 
   -- each statement of word i
   pub runs-fit : Fit (ownStatements p i)
-  runs-fit = fits-by (opAt p i) (number-back (opcode p i) (opcode-known p ok i lt))
+  runs-fit = fits-by (opAt p i) (sym (op-number p i (opcode-known p ok i lt)))
 
   -- in a buffer of 4,096 numbers or more each of its S lines is whole; a capture has none
-  statements-whole : (n : ℕ) → room ≤ n → flatMap (lineWithin n) (statements p i) ≡ flatMap statementLine (statements p i)
-  unfolding statements
-  statements-whole n h = fit-lines n h (cond (ltb 0 (pending p i)) [] (ownStatements p i))
+  stated-whole : (n : ℕ) → room ≤ n → flatMap (lineWithin n) (stated naming p i) ≡ flatMap statementLine (stated naming p i)
+  unfolding stated statements
+  stated-whole n h = fit-lines n h i (opcode p i) (cond (ltb 0 (pending p i)) [] (ownStatements p i))
       (fit-cond (ltb 0 (pending p i)) [] (ownStatements p i) (λ e. fit-none) (λ e. runs-fit))
 
 -- the S lines of a block's words
 pub body-whole : (p : Proto) → check p ≡ fine → p .stack ≤ 255 → ((i : ℕ) → capturesOf p i ≤ 255)
     → (n : ℕ) → room ≤ n → (from count : ℕ) → from + count ≤ size p
-    → flatMap (lineWithin n) (over (statements p) from count) ≡ flatMap statementLine (over (statements p) from count)
+    → flatMap (lineWithin n) (over (stated naming p) from count) ≡ flatMap statementLine (over (stated naming p) from count)
 unfolding over flatMap
 body-whole p ok stack caps n h from zero within = refl
 body-whole p ok stack caps n h from (suc count) within =
     rw (
-      pieces-append (lineWithin n) (statements p from) (over (statements p) (from + 1) count),
-      pieces-append statementLine (statements p from) (over (statements p) (from + 1) count),
-      statements-whole p ok from (omega arith) stack (caps from) n h,
+      pieces-append (lineWithin n) (stated naming p from) (over (stated naming p) (from + 1) count),
+      pieces-append statementLine (stated naming p from) (over (stated naming p) (from + 1) count),
+      stated-whole p ok from (omega arith) stack (caps from) n h,
       body-whole p ok stack caps n h (from + 1) count (omega arith),
     )
 
 -- the assignment on a Then edge
-pub then-whole : (p : Proto) (i n : ℕ) → room ≤ n → flatMap (lineWithin n) (onThen p i) ≡ flatMap statementLine (onThen p i)
-unfolding onThen run count exprs expr
-then-whole p i n h = fit-lines n h _
+pub then-whole : (p : Proto) (i n : ℕ) → room ≤ n → flatMap (lineWithin n) (brought naming p i) ≡ flatMap statementLine (brought naming p i)
+unfolding brought onThen run count exprs expr
+then-whole p i n h = fit-lines n h i (opcode p i) _
     (fit-cond (is p i TESTSET) _ _ (λ e. fit-one _ (omega arith))
     (λ e. fit-cond (is p i FORLOOP) _ _ (λ e. fit-one _ (omega arith))
     (λ e. fit-cond (is p i TFORLOOP) _ _ (λ e. fit-one _ (omega arith)) (λ e. fit-none))))

@@ -7,7 +7,7 @@ ghost use Rattle.basics.specs.Range.{over};
 ghost use Rattle.lines.specs.Out.{output, puts, Prints};
 ghost use Rattle.lua51_instruction.specs.Proto.{Proto};
 ghost use Rattle.lua51_function.specs.Function.{Stands};
-ghost use Rattle.lua51_lifter.specs.Lift.{statements};
+ghost use Rattle.lua51_lifter.specs.Blocks.{stated, naming};
 ghost use Rattle.lua51_lifter.specs.Lift as lift;
 ghost use Rattle.lua51_statements.specs.Lines.{lineWithin};
 use basics::slices::byte_at;
@@ -34,7 +34,7 @@ fn put_word(
     pending: u8,
 ) -> usize
     ensures { λ r. ⌜ ((p : Proto) (ks : List ℕ) → Stands p head (now (words .entry)) ks (now (nested .entry)) (now (nups .entry)) → pending ≡ lift.pending p i
-        → output (now (out .exit)) r ≡ puts (output (now (out .entry)) at) (flatMap (lineWithin (length (now (run .entry)))) (statements p i))) ⌝ }
+        → output (now (out .exit)) r ≡ puts (output (now (out .entry)) at) (flatMap (lineWithin (length (now (run .entry)))) (stated naming p i))) ⌝ }
     ensures anyway { λ r. ⌜ Prints (output (now (out .entry)) at) (output (now (out .exit)) r) ⌝ }
 {
     if 0 < pending {
@@ -80,7 +80,7 @@ pub fn put_body(
 ) -> Body
     ensures { λ r. ⌜ ((p : Proto) (ks : List ℕ) → Stands p head (now (words .entry)) ks (now (nested .entry)) (now (nups .entry)) → pending ≡ lift.pending p from
         → (output (now (out .exit)) (r .at)
-        ≡ puts (output (now (out .entry)) at) (flatMap (lineWithin (length (now (run .entry)))) (over (statements p) from (past - from))))
+        ≡ puts (output (now (out .entry)) at) (flatMap (lineWithin (length (now (run .entry)))) (over (stated naming p) from (past - from))))
         × (r .pending ≡ lift.pending p (from + (past - from)))) ⌝ }
     ensures anyway { λ r. ⌜ Prints (output (now (out .entry)) at) (output (now (out .exit)) (r .at)) ⌝ }
 {

@@ -11,8 +11,9 @@ use Rattle.judging.specs.Judge.{given}
 use Rattle.follow.specs.Demand.{Agree}
 use Rattle.reading.specs.Reading.{Reading, delivery}
 
--- the first m bytes of an output are the listing of function f of the chunk s, which has the lines of its `graph`; and
--- for every list of answers, whoever follows that `graph` and whoever follows the function's words write the same account
+-- the first m bytes of an output are the listing of function f of the chunk s, which has the lines of its `graph`, each
+-- statement with the word that it names; and for every list of answers, whoever follows that `graph` by its statements and
+-- whoever follows the function's words write the same account
 pub record Printed (s : List ℕ) (f m : ℕ) (out : List ℕ) : Type 0 where
   pub lines : take m out ≡ listing (protoAt s (walk s .places) f) (constantsAt s (walk s .places) f)
   pub followed : (answers : List Bool) → Agree (protoAt s (walk s .places) f) answers

@@ -9,12 +9,16 @@ use judging::Answer;
 use judging::refusal::Refusal;
 use judging::refusal::numbers_of;
 use judging::refusal::put_refusal;
+use lines::LETTER_S;
 use reading::PROGRAM_BUFFER;
 use reading::deliver::deliver;
 use reading::open;
 
 // The longest output of a record.
-const MOST_OUTPUT: usize = 180000;
+const MOST_OUTPUT: usize = 210000;
+
+// Behind the letter of an S line stand the word that the statement names and its opcode, in 7 columns each.
+const WORD_COLUMNS: usize = 14;
 
 // More than the longest X line.
 const LINE: usize = 64;
@@ -51,8 +55,37 @@ fn ends_with(refusal: Refusal, recorded: &[u8], at: usize) -> bool {
     matched(&line, count, recorded, at) == recorded.len()
 }
 
-// Whether opening a chunk and delivering its functions one after the other gives the recorded output.
-pub fn same_output(s: &[u8], recorded: &[u8]) -> bool {
+// Takes the two leading numbers of S lines out of the first `count` bytes of a listing, and gives how many bytes are left. In a line no
+// letter stands but the first.
+fn take_words_out(listing: &mut [u8], count: usize) -> usize {
+    let mut kept = 0;
+    let mut i = 0;
+    while i < listing.len() {
+        if count <= i {
+            return kept;
+        }
+        let byte = listing[i];
+        listing[kept] = byte;
+        kept += 1;
+        i += 1;
+        if byte == LETTER_S {
+            i += WORD_COLUMNS;
+        }
+    }
+    kept
+}
+
+// How many bytes of a listing are compared: all of them, or those that are left without the words that statements name.
+fn compared(listing: &mut [u8], count: usize, with_words: bool) -> usize {
+    if with_words {
+        return count;
+    }
+    take_words_out(listing, count)
+}
+
+// Whether opening a chunk and delivering its functions one after the other gives the recorded output, with or without the words that
+// statements name.
+pub fn same_output(s: &[u8], recorded: &[u8], with_words: bool) -> bool {
     let opened = open(s);
     let answer = opened.answer;
     if let Answer::Refused(refusal) = answer {
@@ -68,7 +101,10 @@ pub fn same_output(s: &[u8], recorded: &[u8]) -> bool {
         reading = delivered.reading;
         match delivery {
             Answer::Refused(refusal) => return ends_with(refusal, recorded, at),
-            Answer::Given(count) => at = matched(&out, count, recorded, at),
+            Answer::Given(count) => {
+                let kept = compared(&mut out, count, with_words);
+                at = matched(&out, kept, recorded, at);
+            }
         }
         left -= 1;
     }
@@ -97,5 +133,5 @@ pub fn listed_record(fd: i32) -> Outcome {
     if m != size {
         return Outcome::Differs;
     }
-    outcome_of(same_output(&chunk[..n], &recorded[..m]))
+    outcome_of(same_output(&chunk[..n], &recorded[..m], true))
 }

@@ -16,8 +16,8 @@ const AGREED: usize = 0;
 // The classes of docs/DIFFERENCES.md.
 const MOST_CLASS: usize = 6;
 
-// Whether a chunk gives what its record says. Where the two agree the original's answer is the output, and no listing is recorded;
-// else the recorded listing is, and the answer differs from it.
+// Whether a chunk gives what its record says, without the words that statements name, which the original does not tell. Where the two
+// agree the original's answer is the output, and no listing is recorded; else the recorded listing is, and the answer differs from it.
 fn as_recorded(s: &[u8], class: usize, answer: &[u8], listing: &[u8]) -> bool {
     if MOST_CLASS < class {
         return false;
@@ -26,12 +26,12 @@ fn as_recorded(s: &[u8], class: usize, answer: &[u8], listing: &[u8]) -> bool {
         return false;
     }
     if class != AGREED {
-        return same_output(s, listing);
+        return same_output(s, listing, false);
     }
     if 0 < listing.len() {
         return false;
     }
-    same_output(s, answer)
+    same_output(s, answer, false)
 }
 
 // The next record: read, opened, delivered and compared. One that is not whole differs.

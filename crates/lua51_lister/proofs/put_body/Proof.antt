@@ -10,7 +10,7 @@ use Rattle.lines.proofs.Puts.{prints-none, prints-then}
 use Rattle.basics.specs.Range.{over}
 use Rattle.lua51_instruction.specs.Proto.{Proto}
 use Rattle.lua51_function.specs.Function.{Stands}
-use Rattle.lua51_lifter.specs.Lift.{statements}
+use Rattle.lua51_lifter.specs.Blocks.{stated, naming}
 use Rattle.lua51_lifter.specs.Lift as lift
 use Rattle.lua51_statements.specs.Lines.{lineWithin}
 use Rattle.lua51_statements.proofs.Pieces.{words-turn, words-done}
@@ -23,8 +23,8 @@ Inv-loop out₀ at run₀ head words nested nups from past pending next₀ left�
     (length out ≡ length out₀) × (length run ≡ length run₀) × (i + (past - i) ≡ from + (past - from))
     × ((p : Proto) (ks : List ℕ) → Stands p head words ks nested nups → pending ≡ lift.pending p from
     → (left ≡ lift.pending p i)
-    × (puts (output out₀ at) (flatMap (lineWithin (length run₀)) (over (statements p) from (past - from)))
-    ≡ puts (output out next) (flatMap (lineWithin (length run₀)) (over (statements p) i (past - i)))))
+    × (puts (output out₀ at) (flatMap (lineWithin (length run₀)) (over (stated naming p) from (past - from)))
+    ≡ puts (output out next) (flatMap (lineWithin (length run₀)) (over (stated naming p) i (past - i)))))
     × Prints (output out₀ at) (output out next)
 
 abbrev μ-loop : tie.MeasureT-loop
@@ -57,7 +57,7 @@ loop-again c =
       λ p ks st e.
           let held = l .loop .inv .3 p ks st e in
           let left : a .past - (n + 1) ≡ a .past - n - 1 = omega arith in
-          let turn = words-turn (lineWithin (length (a .run .now))) (statements p) (output (l .loop .out) (l .loop .next)) n (a .past - n) (search needs) in (
+          let turn = words-turn (lineWithin (length (a .run .now))) (stated naming p) (output (l .loop .out) (l .loop .next)) n (a .past - n) (search needs) in (
             c .pending-behind .ensures p (st .words) (st .nups) (held .0),
             rw (w .put-word .ensures .0 p ks st (held .0), l .loop .inv .1, left) (held .1 ∙ turn),
           ),
@@ -79,7 +79,7 @@ returns c =
     let at-end : a .from + (a .past - a .from) ≡ n = omega (arith, l .loop .inv .2, none) in (
       λ p ks st e.
           let held = l .loop .inv .3 p ks st e in (
-            sym (held .1 ∙ words-done (lineWithin (length (a .run .now))) (statements p) (output (l .loop .out) (l .loop .next)) n (a .past - n) (omega arith)),
+            sym (held .1 ∙ words-done (lineWithin (length (a .run .now))) (stated naming p) (output (l .loop .out) (l .loop .next)) n (a .past - n) (omega arith)),
             rw at-end (held .0),
           ),
       l .loop .inv .4,

@@ -12,7 +12,9 @@ use Rattle.lua51_lifter.proofs.Accepted.{stack-few}
 use Rattle.lua51_lifter.proofs.Captures.{leader-free}
 use Rattle.lua51_lister.proofs.Runs.{body-whole}
 use Rattle.block_lines.specs.Lines.{run-numbers}
-use Rattle.block_lines.proofs.Parts.{checked, front-whole, range-within, code-printed}
+use Rattle.lua51_lifter.proofs.Accepted.{end-leader}
+use Rattle.lua51_lifter.proofs.Ranges.{range-within}
+use Rattle.block_lines.proofs.Parts.{checked, front-whole, code-printed}
 use borrow.Author.Needs.{needs}
 use Rattle.block_lines.proofs.blocks.put_code_block.Statement.{statement}
 use Rattle.block_lines.proofs.blocks.put_code_block.Tie as tie
@@ -68,7 +70,7 @@ returns c =
           (body .put-body .ensures .0 p (held .kinds) (held .stands) (sym (leader-free p (ok .fine) (a .j) le leads)) .0)
           (exits .put-exits .ensures .0 p ok le end)
           (front-whole p (a .j) room roomy)
-          (body-whole p (ok .fine) stack few room′ roomy′ (a .j) (past p (a .j) - a .j) (range-within p (a .j) (ok .fine) le)),
+          (body-whole p (ok .fine) stack few room′ roomy′ (a .j) (past p (a .j) - a .j) (range-within p (end-leader p (ok .fine)) (a .j) le)),
       prints-then
           (prints-then (prints-then (record { bytes = _; printed = first .put-block-line .ensures }) (front .put-front .ensures .1)) (body .put-body .ensures .1))
           (exits .put-exits .ensures .1),

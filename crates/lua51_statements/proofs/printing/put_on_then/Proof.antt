@@ -5,7 +5,7 @@ use borrow.Author.Tests.{ne-eqb}
 use Rattle.lines.proofs.Puts.{puts-none}
 use Rattle.lua51_instruction.specs.Proto.{word, opcode}
 use Rattle.lua51_lifter.specs.Lift.{onThen}
-use Rattle.lua51_statements.proofs.Pieces.{pieces-one}
+use Rattle.lua51_lifter.specs.Blocks.{naming, brought}
 use borrow.Author.Needs.{needs}
 use Rattle.lua51_statements.proofs.printing.put_on_then.Statement.{statement}
 use Rattle.lua51_statements.proofs.printing.put_on_then.Tie as tie
@@ -53,14 +53,14 @@ same-length-2 : tie.Need-same-length-2
 same-length-2 c = search needs
 
 returns : tie.Need-returns
-unfolding onThen
+unfolding onThen brought
 returns c p ws =
     let m = c .before .before .before .before .before .before .before .before in
     let w = m .before .before .before in
     let i = w .before .before .before .before .args .i in
     let is : word p i ≡ w .word-at .result = rw ws (sym (w .word-at .ensures)) in
     let o : opcode p i ≡ 27 = rw is (sym (m .before .opcode-of .ensures) ∙ m .match .keys1) in
-    rw (o, pieces-one, is, ← m .before .before .a-of .ensures, ← c .before .before .before .before .before .b-of .ensures) (c .before .before .before .before .put-move .ensures)
+    rw (o, is, ← m .match .keys1, ← m .before .before .a-of .ensures, ← c .before .before .before .before .before .b-of .ensures) (c .before .before .before .before .put-move .ensures)
 
 same-length-3 : tie.Need-same-length-3
 same-length-3 c = search needs
@@ -69,14 +69,14 @@ same-length-4 : tie.Need-same-length-4
 same-length-4 c = search needs
 
 returns-2 : tie.Need-returns-2
-unfolding onThen
+unfolding onThen brought
 returns-2 c p ws =
     let m = c .before .before .before .before .before .before .before in
     let w = m .before .before .before in
     let i = w .before .before .before .before .args .i in
     let is : word p i ≡ w .word-at .result = rw ws (sym (w .word-at .ensures)) in
     let o : opcode p i ≡ 31 = rw is (sym (m .before .opcode-of .ensures) ∙ m .match .keys2) in
-    rw (o, pieces-one, is, ← m .before .before .a-of .ensures) (c .before .before .before .before .put-move2 .ensures)
+    rw (o, is, ← m .match .keys2, ← m .before .before .a-of .ensures) (c .before .before .before .before .put-move2 .ensures)
 
 same-length-5 : tie.Need-same-length-5
 same-length-5 c = search needs
@@ -85,17 +85,17 @@ same-length-6 : tie.Need-same-length-6
 same-length-6 c = search needs
 
 returns-3 : tie.Need-returns-3
-unfolding onThen
+unfolding onThen brought
 returns-3 c p ws =
     let m = c .before .before .before .before .before .before .before in
     let w = m .before .before .before in
     let i = w .before .before .before .before .args .i in
     let is : word p i ≡ w .word-at .result = rw ws (sym (w .word-at .ensures)) in
     let o : opcode p i ≡ 33 = rw is (sym (m .before .opcode-of .ensures) ∙ m .match .keys3) in
-    rw (o, pieces-one, is, ← m .before .before .a-of .ensures) (c .before .before .before .before .put-move3 .ensures)
+    rw (o, is, ← m .match .keys3, ← m .before .before .a-of .ensures) (c .before .before .before .before .put-move3 .ensures)
 
 returns-4 : tie.Need-returns-4
-unfolding onThen flatMap
+unfolding onThen brought naming flatMap
 returns-4 c p ws =
     let w = c .before .before .before in
     let i = w .before .before .before .before .args .i in

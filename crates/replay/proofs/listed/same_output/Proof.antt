@@ -6,10 +6,10 @@ use Rattle.replay.proofs.listed.same_output.Statement.{statement}
 use Rattle.replay.proofs.listed.same_output.Tie as tie
 
 abbrev Inv-loop : tie.InvT-loop
-Inv-loop s recorded out₀ reading₀ at₀ left₀ out reading at left = (length out ≡ 65536)
+Inv-loop s recorded with_words out₀ reading₀ at₀ left₀ out reading at left = (length out ≡ 65536)
 
 abbrev μ-loop : tie.MeasureT-loop
-μ-loop s recorded out₀ reading₀ at₀ left₀ out reading at left = left
+μ-loop s recorded with_words out₀ reading₀ at₀ left₀ out reading at left = left
 
 open-requires : tie.Need-open-requires Inv-loop μ-loop
 open-requires c κs = search needs
@@ -47,6 +47,12 @@ returns-2 c = search needs
 enum-known-delivery-2 : tie.Need-enum-known-delivery-2 Inv-loop μ-loop
 enum-known-delivery-2 c = search needs
 
+slice-aggregate-compared : tie.Need-slice-aggregate-compared Inv-loop μ-loop
+slice-aggregate-compared c = search needs
+
+compared-requires : tie.Need-compared-requires Inv-loop μ-loop
+compared-requires c κs = search needs
+
 slice-aggregate-matched : tie.Need-slice-aggregate-matched Inv-loop μ-loop
 slice-aggregate-matched c = search needs
 
@@ -83,6 +89,8 @@ same-output-spec =
     ends-with-requires-2
     returns-2
     enum-known-delivery-2
+    slice-aggregate-compared
+    compared-requires
     slice-aggregate-matched
     matched-requires
     sub-left

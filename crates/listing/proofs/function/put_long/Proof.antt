@@ -1,8 +1,8 @@
--- `put_small`: a function of few words fits the buffers. Assumes nothing.
+-- `put_long`: every function fits the buffers. Assumes nothing.
 use borrow.Author.Needs.{needs}
-use Rattle.listing.proofs.Loading.{room-few}
-use Rattle.listing.proofs.function.put_small.Statement.{statement}
-use Rattle.listing.proofs.function.put_small.Tie as tie
+use Rattle.listing.proofs.Loading.{room-most}
+use Rattle.listing.proofs.function.put_long.Statement.{statement}
+use Rattle.listing.proofs.function.put_long.Tie as tie
 
 slice-aggregate-put-in : tie.Need-slice-aggregate-put-in
 slice-aggregate-put-in c = search needs
@@ -30,12 +30,12 @@ returns c =
     let p = c .before .before .before .before .before .before .before .before in
     let a = p .before .before .before .before .before .before .before .before .before .before in
     record {
-      listed = λ end walked below ok runs. p .put-in .ensures .0 end walked below ok runs (room-few (a .args .s .now) (a .args .functions) (a .args .f) end walked below _ _ _ (a .pre) (search needs) (search needs) (search needs));
+      listed = λ end walked below ok runs. p .put-in .ensures .0 end walked below ok runs (room-most (a .args .s .now) (a .args .functions) (a .args .f) end walked below _ _ _ (search needs) (search needs) (search needs));
       anyway = p .put-in .ensures .1;
     }
 
-pub put-small-spec : {M : Type 1} → statement M
-put-small-spec =
+pub put-long-spec : {M : Type 1} → statement M
+put-long-spec =
     tie.close
     (tie.spec
     slice-aggregate-put-in
