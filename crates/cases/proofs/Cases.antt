@@ -41,9 +41,10 @@ use Rattle.follow.specs.WordFollower.{wordStep, byWords}
 use Rattle.lines.specs.Text.{bytes}
 use Rattle.cases.specs.Make.{int, functionBytes, chunk}
 use Rattle.cases.specs.Cases.{answerNumbers, eventNumbers, functionOf, told, Case, AllHold}
-use Rattle.cases.specs.Table.{return-alone, return-compared, return-listing, equal-jump, equal-back, numeric-for, loop-onward, past-the-jump}
-use Rattle.cases.specs.Table.{loop-first, three-deep, proved-cases, jump-over-listing, slip-cases, listing-0}
-use Rattle.cases.specs.Table.{listing-1, listing-2, nested-cases, cases}
+use Rattle.cases.specs.Table.{return-alone, return-compared, return-listing, equal-jump, equal-back, numeric-for}
+use Rattle.cases.specs.Table.{loop-onward, loop-first, open-return, three-deep, proved-cases, jump-over-listing}
+use Rattle.cases.specs.Table.{past-the-jump, slip-cases, listing-0, listing-1, listing-2, nested-cases, set-or-jump}
+use Rattle.cases.specs.Table.{loop-body, generic-for, word-cases, cases}
 
 -- ------------------------------------------------------------ the test
 
@@ -86,7 +87,7 @@ unfolding targetOf flatMap flatten digits decimal column line over sum times opO
     opensOf opensIn inside outside insides outsides tailOpens tailMarked actions bare endingOf ending answered
     nextBlock graphStep entryFrom byBlocks byGraph named RK jumped upward slots nils strung areCaptures capturesFrom
     takesOpen firstSlot taken-up kept takes testing doing wordStepFrom wordStep byWords int functionBytes chunk bytes
-    answerNumbers eventNumbers functionOf told
-    comparedItems return-alone return-compared return-listing equal-jump equal-back numeric-for loop-onward loop-first three-deep proved-cases
-    jump-over-listing past-the-jump slip-cases listing-0 listing-1 listing-2 nested-cases cases
+    answerNumbers eventNumbers functionOf comparedItems told return-alone return-compared return-listing equal-jump
+    equal-back numeric-for loop-onward loop-first open-return three-deep proved-cases jump-over-listing past-the-jump
+    slip-cases listing-0 listing-1 listing-2 nested-cases set-or-jump loop-body generic-for word-cases cases
 all-hold = hold cases refl

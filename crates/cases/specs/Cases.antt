@@ -30,6 +30,8 @@ pub data Asked : Type 0 where
   -- name; kind and target of its edges
   statements : ℕ → ℕ → Asked
   edges : ℕ → ℕ → Asked
+  -- of the same: the words that its statements name, each with its opcode
+  behind : ℕ → ℕ → Asked
   -- of a function and a list of answers: what the follower of the graph and that of the words write, in 20 steps
   by-graph : ℕ → List Bool → Asked
   by-words : ℕ → List Bool → Asked
@@ -65,6 +67,7 @@ told s (compared f) = flatMap itemLine (comparedItems (functionOf s f) (constant
 told s printed = flatMap (λ piece. piece) (pieces s)
 told s (statements f b) = flatMap run (saidIn (blockAt (functionOf s f) b))
 told s (edges f b) = flatMap (λ e. e .kind ∷ e .to ∷ []) (blockAt (functionOf s f) b .edges)
+told s (behind f b) = flatMap (λ x. x .word ∷ x .opcode ∷ []) (blockAt (functionOf s f) b .body)
 told s (by-graph f answers) = flatMap eventNumbers (byGraph (functionOf s f) 20 answers)
 told s (by-words f answers) = flatMap eventNumbers (byWords (functionOf s f) 20 answers)
 

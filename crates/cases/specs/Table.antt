@@ -1,14 +1,15 @@
--- The table of cases: document 01's P1 to P10, a case for each of its slips, and functions that may not be confused.
+-- The table of cases: document 01's P1 to P10, a case for each of its slips, functions that may not be confused, and the words
+-- that statements name (document 02, 1).
 use mathlib.Core.Bool.{true}
 use mathlib.Core.List.{List, [], _∷_, _++_}
 use Prim.Native.Nat.{ℕ}
-use Rattle.lua51_instruction.specs.Word.{MOVE, LOADK, LOADBOOL, GETUPVAL, JMP, EQ, CALL, RETURN, FORLOOP, FORPREP}
-use Rattle.lua51_instruction.specs.Word.{SETLIST, CLOSURE}
+use Rattle.lua51_instruction.specs.Word.{MOVE, LOADK, LOADBOOL, LOADNIL, GETUPVAL, JMP, EQ, TESTSET, CALL, TAILCALL}
+use Rattle.lua51_instruction.specs.Word.{RETURN, FORLOOP, FORPREP, TFORLOOP, SETLIST, CLOSURE}
 use Rattle.lua51_deserializer.specs.Chunk.{header}
 use Rattle.lines.specs.Text.{bytes}
 use Rattle.lua51_instruction.specs.Encode.{abc, abx, jumps}
 use Rattle.cases.specs.Make.{functionBytes, chunk}
-use Rattle.cases.specs.Cases.{Case, Asked, judged, listed, compared, printed, statements, edges, by-graph, by-words}
+use Rattle.cases.specs.Cases.{Case, Asked, judged, listed, compared, printed, statements, edges, behind, by-graph, by-words}
 
 abbrev case : List ℕ → Asked → List ℕ → Case
 case s asked expected = record { chunk = s; asked = asked; expected = expected }
@@ -67,6 +68,10 @@ loop-onward = chunk 4 (jumps FORLOOP 0 0 1 ∷ return ∷ [])
 unfoldable pub loop-first : List ℕ
 loop-first = chunk 4 (jumps FORLOOP 0 0 0 ∷ return ∷ [])
 
+-- CALL 0 1 0, RETURN 0 0, RETURN 0 1
+unfoldable pub open-return : List ℕ
+open-return = chunk 1 (abc CALL 0 1 0 ∷ abc RETURN 0 0 0 ∷ return ∷ [])
+
 -- a function in a function in main, each with its own head and words; main has a constant, a NaN
 unfoldable pub three-deep : List ℕ
 three-deep =
@@ -101,7 +106,7 @@ proved-cases =
     case (chunk 2 (abc SETLIST 0 1 511 ∷ return ∷ [])) (statements 0 0) (7 ∷ 0 ∷ 25501 ∷ 1 ∷ 1 ∷ 1 ∷ 0 ∷ 4 ∷ 0 ∷ []) ∷
     case (chunk 2 (abc SETLIST 0 1 0 ∷ return ∷ [])) judged (9 ∷ 0 ∷ 0 ∷ []) ∷
     -- P9: 'CALL 0 1 0, RETURN 0 0, RETURN 0 1: `4 1 10 1 0 0`; without its user, 12'
-    case (chunk 1 (abc CALL 0 1 0 ∷ abc RETURN 0 0 0 ∷ return ∷ [])) (statements 0 0) (4 ∷ 1 ∷ 10 ∷ 1 ∷ 0 ∷ 0 ∷ []) ∷
+    case open-return (statements 0 0) (4 ∷ 1 ∷ 10 ∷ 1 ∷ 0 ∷ 0 ∷ []) ∷
     case (chunk 1 (abc CALL 0 1 0 ∷ return ∷ [])) judged (12 ∷ 0 ∷ 0 ∷ []) ∷
     -- P10: 'stack 250 stands, 251 is 7'. Its lengths are in Lengths
     case (chunk 250 (return ∷ [])) judged (1 ∷ []) ∷
@@ -191,7 +196,39 @@ nested-cases =
     -- a refused chunk prints its X line alone
     case (chunk 1 []) printed (bytes "X      8      0      0\n") ∷ []
 
+-- ------------------------------------------------------------ the word behind a statement (document 02, 1)
+
+-- TESTSET 0 0 1, JMP to 2, RETURN
+unfoldable pub set-or-jump : List ℕ
+set-or-jump = chunk 1 (abc TESTSET 0 0 1 ∷ jumps JMP 0 1 2 ∷ return ∷ [])
+
+-- FORPREP to 2, MOVE 4 3, FORLOOP to 1, RETURN: only the loop leads to word 1
+unfoldable pub loop-body : List ℕ
+loop-body = chunk 5 (jumps FORPREP 0 0 2 ∷ abc MOVE 4 3 0 ∷ jumps FORLOOP 0 2 1 ∷ return ∷ [])
+
+-- JMP to 1, TFORLOOP 0 1, JMP to 1, RETURN
+unfoldable pub generic-for : List ℕ
+generic-for = chunk 4 (jumps JMP 0 0 1 ∷ abc TFORLOOP 0 0 1 ∷ jumps JMP 0 2 1 ∷ return ∷ [])
+
+unfoldable pub word-cases : List Case
+word-cases =
+    -- 'The assignment of a TESTSET, FORLOOP or TFORLOOP names that word, also where it stands in another block': at a front,
+    -- and in a between block
+    case set-or-jump (behind 0 1) (0 ∷ 27 ∷ []) ∷
+    case generic-for (behind 0 2) (1 ∷ 33 ∷ []) ∷
+    case numeric-for (behind 0 5) (1 ∷ 31 ∷ []) ∷
+    -- 'behind an assignment put at a block's front the indexes never fall': at the front itself it may be higher
+    case loop-body (behind 0 1) (2 ∷ 31 ∷ 1 ∷ 0 ∷ []) ∷
+    -- several statements of one word
+    case generic-for (behind 0 1) (1 ∷ 33 ∷ 1 ∷ 33 ∷ []) ∷
+    case (chunk 2 (abc LOADNIL 0 1 0 ∷ return ∷ [])) (behind 0 0) (0 ∷ 3 ∷ 0 ∷ 3 ∷ 1 ∷ 30 ∷ []) ∷
+    -- 'Entry statements carry n and 99.'
+    case return-alone (behind 0 2) (1 ∷ 99 ∷ 1 ∷ 99 ∷ []) ∷
+    -- 'A statement with an open tail names the user, not the opener.'
+    case open-return (behind 0 0) (1 ∷ 30 ∷ []) ∷
+    case (chunk 1 (abc TAILCALL 0 1 0 ∷ abc RETURN 0 0 0 ∷ return ∷ [])) (behind 0 0) (1 ∷ 30 ∷ []) ∷ []
+
 -- ------------------------------------------------------------ all
 
 unfoldable pub cases : List Case
-cases = proved-cases ++ slip-cases ++ nested-cases
+cases = proved-cases ++ slip-cases ++ nested-cases ++ word-cases

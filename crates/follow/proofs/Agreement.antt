@@ -17,8 +17,7 @@ use Rattle.lua51_lifter.specs.Check.{check, fine}
 use Rattle.follow.specs.Account.{Action, go, Next, Step, account}
 use Rattle.lua51_lifter.specs.Lift.{onThen, pending, statements, statementsBy}
 use Rattle.lua51_lifter.specs.Blocks.{Block, no-block, leads, edgesOf, entryNils, brought, front, codeBlock}
-use Rattle.lua51_lifter.specs.Blocks.{entryBlock, betweenBlock, blocks, Named, naming, graph}
-use Rattle.lua51_lifter.specs.Blocks.{unnamed}
+use Rattle.lua51_lifter.specs.Blocks.{entryBlock, betweenBlock, blocks, Named, naming, unnamed, graph}
 use Rattle.basics.specs.Range.{only, over, sum}
 use Rattle.follow.specs.GraphFollower.{endingOf, graphStep, entryFrom, byBlocks, byGraph, nextBlock, ending}
 use Rattle.lua51_lifter.proofs.Naming.{said-code, said-entry, said-between}

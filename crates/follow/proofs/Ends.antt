@@ -21,8 +21,7 @@ use Rattle.lua51_lifter.specs.Check.{check, fine, landsInside, reaches}
 use Rattle.follow.specs.GraphFollower.{nextBlock, actions, ending, insides, endingOf, outsides, inside, passes}
 use Rattle.follow.specs.GraphFollower.{outside, bare, fold, answered}
 use Rattle.cfg.proofs.Entering.{sent, loop-cases, undiverted}
-use Rattle.lua51_lifter.specs.Blocks.{leads, front, brought}
-use Rattle.lua51_lifter.specs.Blocks.{unnamed}
+use Rattle.lua51_lifter.specs.Blocks.{leads, front, brought, unnamed}
 use Rattle.basics.specs.Range.{times, only}
 use Rattle.lua51_instruction.specs.Jump.{isWord}
 use Rattle.lua51_instruction.proofs.Targets.{target-below}

@@ -9,30 +9,31 @@ use Rattle.lua51_lifter.specs.Blocks.{Block, Named, graph}
 use Rattle.lua51_lifter.specs.Listing.{statementItem, edgeItem, blockItems, allBlockItems, constantItems, functionItems}
 use Rattle.lua51_lifter.specs.Listing.{namedNumbers, items}
 use Rattle.lua51_lifter.specs.WordBehind.{comparedItems, withoutColumns, ColumnsAlone}
-use Rattle.lua51_lifter.proofs.Naming.{said, unnamedBlock, said-graph}
+use Rattle.lua51_lifter.proofs.Naming.{says, mapped, said-graph}
 
 constants-kept : (i : ℕ) (vs : List Value) → map withoutColumns (constantItems i vs) ≡ constantItems i vs
 unfolding constantItems withoutColumns
 constants-kept i [] = refl
 constants-kept i (v ∷ vs) = rw (constants-kept (i + 1) vs)
 
-statements-kept : (ss : List Named) → map withoutColumns (map (statementItem namedNumbers) ss) ≡ map (statementItem run) (said ss)
+statements-kept : (ss : List Named)
+    → map withoutColumns (map (statementItem namedNumbers) ss) ≡ map (statementItem run) (map says ss)
 unfolding withoutColumns namedNumbers
 statements-kept ss =
-    map-map withoutColumns (statementItem namedNumbers) ss ∙ sym (map-map (statementItem run) (λ (s : Named). s .says) ss)
+    map-map withoutColumns (statementItem namedNumbers) ss ∙ sym (map-map (statementItem run) says ss)
 
 edges-kept : (es : List Edge) → map withoutColumns (map edgeItem es) ≡ map edgeItem es
 unfolding withoutColumns
 edges-kept es = map-map withoutColumns edgeItem es
 
-block-kept : (n : ℕ) (b : Block Named) → map withoutColumns (blockItems namedNumbers n b) ≡ blockItems run n (unnamedBlock b)
+block-kept : (n : ℕ) (b : Block Named) → map withoutColumns (blockItems namedNumbers n b) ≡ blockItems run n (mapped says b)
 unfolding blockItems
 block-kept n b =
     rw (map-append withoutColumns (map (statementItem namedNumbers) (b .body)) _, statements-kept (b .body), edges-kept (b .edges))
     (unfold withoutColumns in refl)
 
 blocks-kept : (n : ℕ) (bs : List (Block Named))
-    → map withoutColumns (allBlockItems namedNumbers n bs) ≡ allBlockItems run n (map unnamedBlock bs)
+    → map withoutColumns (allBlockItems namedNumbers n bs) ≡ allBlockItems run n (map (mapped says) bs)
 unfolding allBlockItems
 blocks-kept n [] = refl
 blocks-kept n (b ∷ bs) =

@@ -4,6 +4,7 @@ pub mod Captures
 pub mod Ranges
 pub mod Blocks
 pub mod Fronts
+pub mod Parts
 pub mod Naming
 pub mod Columns
 pub mod Tails

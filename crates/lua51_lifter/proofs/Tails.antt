@@ -1,8 +1,8 @@
 -- A statement with an open tail names a user (document 02, 1): it is given by a word that takes open results. Assumes nothing.
 use Prim.Native.Nat.{ℕ, zero, suc, _+_, _-_, _≤_, _<_}
 use native.Mathlib.Omega.{arith}
-use mathlib.Core.Bool.{Bool, true, false, cond}
-use mathlib.Core.Path.{_≡_, refl, sym, _∙_}
+use mathlib.Core.Bool.{Bool, true, false, cond, _||_}
+use mathlib.Core.Path.{_≡_, refl, sym}
 use mathlib.Core.List.{List, [], _∷_, _++_}
 use lib.Dec.{ltb, eqb}
 use borrow.Author.Tests.{eqb-true, eq-eqb}
@@ -13,8 +13,7 @@ use Rattle.lua51_instruction.specs.Word.{SETUPVAL, SETTABLE, NEWTABLE, SELF, AD
 use Rattle.lua51_instruction.specs.Word.{LEN, CONCAT, JMP, EQ, LT, LE, TEST, TESTSET, CALL, TAILCALL, RETURN, FORLOOP}
 use Rattle.lua51_instruction.specs.Word.{FORPREP, TFORLOOP, SETLIST, CLOSE, CLOSURE, VARARG, UNKNOWN, numberOf}
 use Rattle.lua51_instruction.specs.Proto.{Proto, size, is, opcode, opAt, A, B, C}
-use Rattle.ast.specs.Statement.{[]ᵉ, registers, register, index, expr, Stmt, nil, assign, set-register}
-use Rattle.ast.specs.Statement.{one as single}
+use Rattle.ast.specs.Statement.{[]ᵉ, registers, expr, Stmt, nil, set-register}
 use Rattle.lua51_lifter.specs.Lift.{statements, statementsBy, onThen, pending, taken, tailFor, rk, concatenated}
 use Rattle.lua51_lifter.specs.Blocks.{stated, Named, naming}
 use Rattle.lua51_lifter.specs.Check.{user, check, fine}
@@ -40,37 +39,30 @@ concatenated-closed b (suc n) = refl
 
 -- ------------------------------------------------------------ the statements of a word
 
-module _ (p : Proto) (i : ℕ) where
-  -- each of them that has an open tail has a user's
-  abbrev pub Tails : List Stmt → Type 0
-  Tails [] = Unit {0}
-  Tails (s ∷ ss) = (openTailed s ≡ true → user p i ≡ true) × Tails ss
+-- a word with an opcode that may take open results is a user where its B is 0
+pub user-by : (p : Proto) (i o : ℕ)
+    → eqb o (numberOf CALL) || eqb o (numberOf TAILCALL) || eqb o (numberOf RETURN) || eqb o (numberOf SETLIST) ≡ true
+    → opcode p i ≡ o → B p i ≡ 0 → user p i ≡ true
+unfolding user
+user-by p i o takes n b = rw (n, takes, eq-eqb (B p i) 0 b)
 
-  -- one that has none
+-- of word i, as statements that name i, whatever number stands for an opcode
+module _ (p : Proto) (i number : ℕ) where
+  abbrev Tails : List Stmt → Type 0
+  Tails ss = TailsNamed p (naming i number ss)
+
+  -- one that has no open tail
   quiet : (false ≡ true → user p i ≡ true) × Unit {0}
   quiet = (λ t. clash t refl, tt)
 
   pub nils-closed : (r n : ℕ) → Tails (over (λ x. only (set-register x nil)) r n)
-  unfolding over openTailed someCallOpen someOpen argumentsOf
+  unfolding over naming openTailed someCallOpen someOpen argumentsOf
   nils-closed r zero = tt
   nils-closed r (suc n) = (λ t. clash t refl, nils-closed (r + 1) n)
 
   either : (b : Bool) (xs ys : List Stmt) → (b ≡ true → Tails xs) → (b ≡ false → Tails ys) → Tails (cond b xs ys)
   either true xs ys f g = f refl
   either false xs ys f g = g refl
-
-  -- a user by its opcode
-  pub user-call : opcode p i ≡ numberOf CALL → B p i ≡ 0 → user p i ≡ true
-  unfolding user
-  user-call n b = rw (n, eq-eqb (B p i) 0 b)
-
-  pub user-return : opcode p i ≡ numberOf RETURN → B p i ≡ 0 → user p i ≡ true
-  unfolding user
-  user-return n b = rw (n, eq-eqb (B p i) 0 b)
-
-  pub user-list : opcode p i ≡ numberOf SETLIST → B p i ≡ 0 → user p i ≡ true
-  unfolding user
-  user-list n b = rw (n, eq-eqb (B p i) 0 b)
 
   -- what it takes is open only where its B is 0
   taken-open : (slot : ℕ) → (B p i ≡ 0 → user p i ≡ true) → someOpen (taken p i slot (tailFor p i)) ≡ true → user p i ≡ true
@@ -80,7 +72,7 @@ module _ (p : Proto) (i : ℕ) where
       (λ e. clash (rw e at t) (registers-closed slot (B p i - 1)))
 
   by-rule : (o : Op) → opcode p i ≡ numberOf o → Tails (statementsBy p i o)
-  unfolding statementsBy openTailed someCallOpen someOpen argumentsOf expr
+  unfolding statementsBy naming openTailed someCallOpen someOpen argumentsOf expr
   by-rule MOVE n = quiet
   by-rule LOADK n = quiet
   by-rule LOADBOOL n = quiet
@@ -113,36 +105,32 @@ module _ (p : Proto) (i : ℕ) where
       (λ e. either (eqb (C p i) 1) _ _ (λ d. called) (λ d. called))
     where
       called : (someOpen (taken p i (A p i + 1) (tailFor p i)) ≡ true → user p i ≡ true) × Unit {0}
-      called = (taken-open (A p i + 1) (user-call n), tt)
+      called = (taken-open (A p i + 1) (user-by p i (numberOf CALL) refl n), tt)
   by-rule TAILCALL n = tt
-  by-rule RETURN n = (taken-open (A p i) (user-return n), tt)
+  by-rule RETURN n = (taken-open (A p i) (user-by p i (numberOf RETURN) refl n), tt)
   by-rule FORLOOP n = quiet
   by-rule FORPREP n = quiet
   by-rule TFORLOOP n = (λ t. clash t (registers-closed (A p i + 1) 2), quiet)
-  by-rule SETLIST n = either (eqb (B p i) 0) _ _ (λ e. (λ t. user-list n (eqb-true (B p i) 0 e), tt)) (λ e. (λ t. clash t (registers-closed (A p i + 1) (B p i)), tt))
+  by-rule SETLIST n = either (eqb (B p i) 0) _ _ (λ e. (λ t. user-by p i (numberOf SETLIST) refl n (eqb-true (B p i) 0 e), tt))
+      (λ e. (λ t. clash t (registers-closed (A p i + 1) (B p i)), tt))
   by-rule CLOSE n = quiet
   by-rule CLOSURE n = quiet
   by-rule VARARG n = either (eqb (B p i) 0) _ _ (λ e. tt) (λ e. quiet)
   by-rule UNKNOWN n = tt
 
   pub stated-tails : check p ≡ fine → i < size p → Tails (statements p i)
-  unfolding statements
+  unfolding statements naming
   stated-tails ok lt = either (ltb 0 (pending p i)) [] (statementsBy p i (opAt p i)) (λ e. tt)
       (λ e. by-rule (opAt p i) (sym (op-number p i (opcode-known p ok i lt))))
 
   pub brought-tails : Tails (onThen p i)
-  unfolding onThen openTailed someCallOpen someOpen argumentsOf
+  unfolding onThen naming openTailed someCallOpen someOpen argumentsOf
   brought-tails = either (is p i TESTSET) _ _ (λ e. quiet)
       (λ e. either (is p i FORLOOP) _ _ (λ e. quiet) (λ e. either (is p i TFORLOOP) _ _ (λ e. quiet) (λ e. tt)))
 
 -- ------------------------------------------------------------ the statements of a block
 
 module _ (p : Proto) where
-  pub tails-naming : (i o : ℕ) (ss : List Stmt) → Tails p i ss → TailsNamed p (naming i o ss)
-  unfolding naming
-  tails-naming i o [] h = tt
-  tails-naming i o (s ∷ ss) h = (h .0, tails-naming i o ss (h .1))
-
   pub tails-append : (xs ys : List Named) → TailsNamed p xs → TailsNamed p ys → TailsNamed p (xs ++ ys)
   tails-append [] ys f g = g
   tails-append (x ∷ xs) ys f g = (f .0, tails-append xs ys (f .1) g)
@@ -152,5 +140,4 @@ module _ (p : Proto) where
   tails-words ok t zero within = tt
   tails-words ok t (suc k) within =
       tails-append (stated naming p t) (over (stated naming p) (t + 1) k)
-      (tails-naming t (opcode p t) (statements p t) (stated-tails p t ok (omega arith)))
-      (tails-words ok (t + 1) k (omega arith))
+      (stated-tails p t (opcode p t) ok (omega arith)) (tails-words ok (t + 1) k (omega arith))

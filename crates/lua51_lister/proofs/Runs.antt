@@ -19,7 +19,7 @@ use Rattle.lua51_statements.specs.Lines.{lineWithin, ownStatements}
 use Rattle.lua51_runs.specs.Runs.{runAt, listed}
 use Rattle.lua51_calls.specs.Calls.{below, counted}
 use Rattle.lua51_lifter.proofs.Accepted.{user-opener, opcode-known}
-use Rattle.lua51_lifter.proofs.Tails.{user-call, user-return, user-list}
+use Rattle.lua51_lifter.proofs.Tails.{user-by}
 use Rattle.basics.proofs.Range.{over-length, over-at}
 use Rattle.lua51_runs.proofs.Assigned.{set-numbers, assign-numbers, list-numbers}
 use Rattle.lua51_runs.proofs.Captured.{closure-numbers, first-capture}
@@ -191,10 +191,10 @@ module _ (p : Proto) (ok : check p ≡ fine) (i : ℕ) (lt : i < size p) (stack 
   fits-by CALL n =
       fit-cond (eqb (C p i) 0) _ _ (λ e. fit-none)
       (λ e. fit-cond (eqb (C p i) 1) _ _
-      (λ d. fit-one _ (omega (arith, call-length (user-call p i n))))
-      (λ d. fit-one _ (fit-lefts (A p i) (C p i - 1) (select (callWith p i (tailFor p i))) (omega arith) (omega (arith, call-length (user-call p i n))))))
+      (λ d. fit-one _ (omega (arith, call-length (user-by p i (numberOf CALL) refl n))))
+      (λ d. fit-one _ (fit-lefts (A p i) (C p i - 1) (select (callWith p i (tailFor p i))) (omega arith) (omega (arith, call-length (user-by p i (numberOf CALL) refl n))))))
   fits-by TAILCALL n = fit-none
-  fits-by RETURN n = fit-one _ (omega (arith, taken-length (A p i) (user-return p i n)))
+  fits-by RETURN n = fit-one _ (omega (arith, taken-length (A p i) (user-by p i (numberOf RETURN) refl n)))
   fits-by FORLOOP n = fit-one _ (omega arith)
   fits-by FORPREP n = fit-one _ (omega arith)
   fits-by TFORLOOP n =
@@ -203,7 +203,7 @@ module _ (p : Proto) (ok : check p ≡ fine) (i : ℕ) (lt : i < size p) (stack 
       (omega arith)
   fits-by SETLIST n =
       fit-cond (eqb (B p i) 0) _ _
-      (λ e. fit-one _ (omega (arith, list-length (A p i) (C p i) (A p (i - 1) - (A p i + 1)) (open-tail (openResults p (i - 1))), open-short (user-list p i n (eqb-true (B p i) 0 e)))))
+      (λ e. fit-one _ (omega (arith, list-length (A p i) (C p i) (A p (i - 1) - (A p i + 1)) (open-tail (openResults p (i - 1))), open-short (user-by p i (numberOf SETLIST) refl n (eqb-true (B p i) 0 e)))))
       (λ e. fit-one _ (omega (arith, list-length (A p i) (C p i) (B p i) no-tail)))
   fits-by CLOSE n = fit-one _ (omega (arith, over-length (λ r. r) (A p i) (p .stack - A p i)))
   fits-by CLOSURE n = fit-one _ (omega (arith, ap length (closure-numbers (A p i) (closureOf p i) (captures p i (capturesOf p i))), captures-length p i (capturesOf p i)))
