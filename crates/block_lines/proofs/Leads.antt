@@ -5,26 +5,24 @@ use mathlib.Core.Bool.{true, false, cond}
 use mathlib.Core.List.{List, [], _∷_, _++_, map, flatMap}
 use mathlib.Core.Path.{_≡_, refl, sym}
 use lib.Dec.{ltb, eqb}
-use borrow.Author.Tests.{ltb-true, ltb-false, lt-ltb, eq-eqb, ne-eqb}
+use borrow.Author.Tests.{ltb-true, lt-ltb, eq-eqb, ne-eqb}
 use Rattle.lines.specs.Line.{line, letter-E}
 use Rattle.lua51_instruction.specs.Word.{Flow, straight, skip, jump, test, test-set, loop-entry, numeric-loop, generic-loop, exit}
-use Rattle.lua51_instruction.specs.Word.{FORLOOP, rowOf, row, opOf}
 use Rattle.lua51_instruction.specs.Proto.{Proto, size, word, flowAt, C, target}
-use Rattle.lua51_instruction.proofs.Table.{flow-is, word-beyond}
 use Rattle.lua51_instruction.proofs.Targets.{target-most}
 use Rattle.basics.specs.Range.{only}
 use Rattle.basics.proofs.Range.{times-second}
-use Rattle.basics.proofs.Tests.{clash, either-way}
+use Rattle.basics.proofs.Tests.{either-way}
 use Rattle.cfg.specs.Graph.{Edge, leader, claims, past, leaving, blockOf, isLoop, thenOf, betweenOf, diverted}
 use Rattle.cfg.specs.Arrays.{edgesMeant}
 use Rattle.cfg.specs.declared.edges.Edges.{Edges}
 use Rattle.cfg.proofs.Leaders.{leader-claimed, past-found}
-use Rattle.cfg.proofs.Entering.{loop-cases, loop-leads}
-use Rattle.cfg.proofs.Diverting.{numeric-then, generic-then}
+use Rattle.cfg.proofs.Diverting.{loop-inside, then-most}
 use Rattle.lua51_lifter.specs.Check.{check, fine, landsInside}
 use Rattle.lua51_lifter.specs.Blocks.{leads, edgesOf}
 use Rattle.lua51_lifter.specs.Listing.{edgeLine}
 use Rattle.lua51_lifter.proofs.Accepted.{lands, end-leader}
+use Rattle.lua51_lifter.proofs.Parts.{loop-then}
 use Rattle.lua51_statements.proofs.Pieces.{pieces-one}
 
 -- ------------------------------------------------------------ one edge
@@ -69,10 +67,6 @@ module _ (p : Proto) (ok : check p ≡ fine) (i : ℕ) (lt : i < size p) where
   second : (t : ℕ) → claims p i (flowAt p i) ≡ (i + 1) ∷ t ∷ [] → t ≤ size p → Starts p t
   second t h le = record { inside = le; leads = leader-claimed p i t lt (rw h (times-second t (i + 1))) }
 
-  -- the target of a numeric loop
-  pub target-starts : flowAt p i ≡ numeric-loop → Starts p (target p i)
-  target-starts e = second (target p i) (unfold claims in rw e) target-inside
-
   module _ (next : leader p (i + 1) ≡ true) where
     onward : Starts p (i + 1)
     onward = record { inside = omega arith; leads = next }
@@ -99,20 +93,8 @@ module _ (p : Proto) (ok : check p ≡ fine) (i : ℕ) (lt : i < size p) where
     leaving-land = by-flow (flowAt p i) refl (lands p ok i lt (flowAt p i) refl)
 
 -- the Then edge of a loop
-module _ (p : Proto) (ok : check p ≡ fine) where
-  -- behind the last word there is no loop
-  loop-inside : (i : ℕ) → isLoop p i ≡ true → i < size p
-  unfolding isLoop
-  loop-inside i h = either-way (ltb i (size p))
-      (λ l. ltb-true i (size p) l)
-      (λ l. clash h (rw (word-beyond p i (ltb-false i (size p) l))))
-
-  pub then-starts : (i : ℕ) → isLoop p i ≡ true → Starts p (thenOf p i)
-  then-starts i h =
-      let lt = loop-inside i h in
-      loop-cases p i h
-      (λ c. rw (numeric-then p i c) (target-starts p ok i lt (flow-is p i FORLOOP numeric-loop c (unfold rowOf row opOf in refl))))
-      (λ c. rw (generic-then p i c) (record { inside = omega arith; leads = loop-leads p i lt h }))
+pub then-starts : (p : Proto) (i : ℕ) → isLoop p i ≡ true → Starts p (thenOf p i)
+then-starts p i h = record { inside = then-most p i h; leads = loop-then p i (loop-inside p i h) h }
 
 module _ (p : Proto) (i : ℕ) where
   -- the edges as the code has them

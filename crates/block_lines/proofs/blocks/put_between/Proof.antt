@@ -62,7 +62,7 @@ returns-2 c =
     let r = b .between-at .result in (
       λ p ok roomy lt.
           let way = between-some p (a .notes .now) (ok .notes) (a .i) r (b .between-at .ensures) (omega arith) (other .if1 .left) in
-          let starts = then-starts p (ok .fine) (a .i) (diverted-loop p (a .i) way) in
+          let starts = then-starts p (a .i) (diverted-loop p (a .i) way) in
           let t : to .then-of .result ≡ thenOf p (a .i) = to .then-of .ensures p (ok .words) ∙ rw (lt-ltb _ _ lt) in
           let block : number .block-at .result ≡ blockOf p (thenOf p (a .i)) =
           block-is p (a .notes .now) (ok .notes) (thenOf p (a .i)) (number .block-at .result) (rw t at (number .block-at .ensures)) (starts .inside) (starts .leads) in
