@@ -51,6 +51,10 @@ C p i = fieldC (word p i)
 abbrev pub Bx : Proto → ℕ → ℕ
 Bx p i = fieldBx (word p i)
 
+-- its source line; 0 'in a function without lines'
+abbrev pub lineAt : Proto → ℕ → ℕ
+lineAt p i = getD (p .lines) i 0
+
 -- word i has the opcode o
 abbrev pub is : Proto → ℕ → Op → Bool
 is p i o = eqb (opcode p i) (numberOf o)

@@ -6,11 +6,11 @@ use mathlib.Core.Path.{_≡_, ap, _∙_}
 use lib.Dec.{leb, ltb, eqb}
 use borrow.Author.Tests.{ltb-true, ltb-false, leb-true, eqb-true, eqb-false, eq-eqb}
 use Rattle.lua51_instruction.specs.Word.{TESTSET, RETURN, CLOSURE, UNKNOWN, Flow, rowOf, numberOf}
-use Rattle.lua51_instruction.specs.Proto.{Proto, size, opcode, is, A, flowAt, B, C, capturesOf}
+use Rattle.lua51_instruction.specs.Proto.{Proto, size, opcode, is, A, flowAt, B, C, capturesOf, lineAt}
 use Rattle.lua51_lifter.specs.Check.{check, fine, lastFault, refuseIf, Verdict, _else_, user, firstRefusal, slot}
 use Rattle.lua51_lifter.specs.Check.{missing-results, operandFault, useVerdict, operand, opener, wordVerdict}
 use Rattle.lua51_lifter.specs.Check.{unused-results, reached, matches, headFault, allCaptures, landsInside}
-use Rattle.lua51_lifter.specs.Check.{reaches}
+use Rattle.lua51_lifter.specs.Check.{reaches, most-line, lineVerdict}
 use Rattle.cfg.specs.Graph.{leader}
 use Rattle.lua51_lifter.proofs.Verdicts.{refused-not, else-then, first-all, else-first}
 use Rattle.basics.proofs.Tests.{and-left, or-left, not-is, either-way, and-right, clash, not-not, or-right, and-not}
@@ -28,18 +28,27 @@ module _ (p : Proto) (ok : check p ≡ fine) where
   abbrev of-uses : Verdict
   of-uses = firstRefusal (useVerdict p) 0 (size p)
 
-  from-last : refuseIf (lastFault p) 8 (size p - 1) else of-words else of-uses ≡ fine
-  unfolding check
-  from-last = else-then (refuseIf (headFault p) 7 0) (refuseIf (lastFault p) 8 (size p - 1) else of-words else of-uses) ok
+  abbrev of-lines : Verdict
+  of-lines = firstRefusal (lineVerdict p) 0 (size p)
 
-  from-words : of-words else of-uses ≡ fine
-  from-words = else-then (refuseIf (lastFault p) 8 (size p - 1)) (of-words else of-uses) from-last
+  from-last : refuseIf (lastFault p) 8 (size p - 1) else of-words else of-uses else of-lines ≡ fine
+  unfolding check
+  from-last = else-then (refuseIf (headFault p) 7 0) _ ok
+
+  from-words : of-words else of-uses else of-lines ≡ fine
+  from-words = else-then (refuseIf (lastFault p) 8 (size p - 1)) _ from-last
+
+  from-uses : of-uses else of-lines ≡ fine
+  from-uses = else-then of-words _ from-words
 
   word-fine : (i : ℕ) → i < size p → wordVerdict p i ≡ fine
-  word-fine = first-all (wordVerdict p) (size p) (else-first of-words of-uses from-words)
+  word-fine = first-all (wordVerdict p) (size p) (else-first of-words _ from-words)
 
   use-fine : (i : ℕ) → i < size p → useVerdict p i ≡ fine
-  use-fine = first-all (useVerdict p) (size p) (else-then of-words of-uses from-words)
+  use-fine = first-all (useVerdict p) (size p) (else-first of-uses of-lines from-uses)
+
+  line-fine : (i : ℕ) → i < size p → lineVerdict p i ≡ fine
+  line-fine = first-all (lineVerdict p) (size p) (else-then of-uses of-lines from-uses)
 
   -- ------------------------------------------------------------ 7 and 8
 
@@ -52,7 +61,7 @@ module _ (p : Proto) (ok : check p ≡ fine) where
   stack-few = ltb-false 250 (p .stack) (or-left _ _ (or-left _ _ (or-left _ _ (or-left _ _ head-right))))
 
   last-right : lastFault p ≡ false
-  last-right = refused-not (lastFault p) 8 (size p - 1) (else-first (refuseIf (lastFault p) 8 (size p - 1)) (of-words else of-uses) from-last)
+  last-right = refused-not (lastFault p) 8 (size p - 1) (else-first (refuseIf (lastFault p) 8 (size p - 1)) _ from-last)
 
   pub some-words : 0 < size p
   unfolding lastFault
@@ -155,6 +164,12 @@ module _ (p : Proto) (ok : check p ≡ fine) where
     set-unreached h j l =
         let none : reached p (i + 1) ≡ false = and-not (is p i TESTSET) _ (refused-not _ 14 i (else-then (refuseIf (is p i CLOSURE && not (allCaptures p i (capturesOf p i))) 13 i) _ behind-results)) (eq-eqb (opcode p i) (numberOf TESTSET) h) in
         omega (arith, sum-at (λ j. times (i + 1) (reaches p j (flowAt p j))) (size p) j l, ltb-false 0 (sum (λ j. times (i + 1) (reaches p j (flowAt p j))) 0 (size p)) none)
+
+    -- ------------------------------------------------------------ 15
+
+    pub line-few : lineAt p i ≤ most-line
+    unfolding lineVerdict
+    line-few = ltb-false most-line (lineAt p i) (refused-not (ltb most-line (lineAt p i)) 15 i (line-fine i lt))
 
   -- a word behind none that opens takes nothing
   pub no-user : (i : ℕ) → opener p i ≡ false → user p (i + 1) ≡ false

@@ -1,4 +1,4 @@
--- A function with every opcode, and its listing: what each word gives, computed. Assumes nothing.
+-- A function with every opcode, and its listing: what each word gives, computed; a between block; source lines. Assumes nothing.
 use Prim.Native.Nat.{ℕ}
 use mathlib.Core.List.{List, [], _∷_, _++_, flatMap}
 use mathlib.Core.Path.{_≡_, refl}
@@ -6,7 +6,7 @@ use Rattle.lua51_instruction.specs.Word.{MOVE, LOADK, LOADBOOL, LOADNIL, GETUPV
 use Rattle.lua51_instruction.specs.Word.{SETUPVAL, SETTABLE, NEWTABLE, SELF, ADD, SUB, MUL, DIV, MOD, POW, UNM, NOT}
 use Rattle.lua51_instruction.specs.Word.{LEN, CONCAT, JMP, EQ, LT, LE, TEST, TESTSET, CALL, TAILCALL, RETURN, FORLOOP}
 use Rattle.lua51_instruction.specs.Word.{FORPREP, TFORLOOP, SETLIST, CLOSE, CLOSURE, VARARG, opOf, row, rowOf}
-use Rattle.basics.specs.Range.{sum, times, over}
+use Rattle.basics.specs.Range.{sum, times, over, only}
 use Rattle.lua51_instruction.specs.Jump.{targetOf}
 use Rattle.lua51_instruction.specs.Proto.{Proto}
 use Rattle.lua51_instruction.specs.Encode.{abc, abx, jumps}
@@ -17,14 +17,16 @@ use Rattle.cfg.specs.Graph.{claims, leader, blockOf, leaderFrom, past, leaving,
 use Rattle.cfg.specs.Graph.{diverted, betweenOf}
 use Rattle.lua51_lifter.specs.Check.{firstRefusal, headFault, lastFault, operand, operandFault, landsInside}
 use Rattle.lua51_lifter.specs.Check.{tests, wordVerdict, opener, user, slot, matches, unused-results}
-use Rattle.lua51_lifter.specs.Check.{missing-results, allCaptures, reaches, reached, useVerdict, check, fine}
+use Rattle.lua51_lifter.specs.Check.{missing-results, allCaptures, reaches, reached, useVerdict, lineVerdict}
+use Rattle.lua51_lifter.specs.Check.{check, fine, wrong}
 use Rattle.ast.specs.Statement.{count, expr, exprs, tailNumbers, run, registers}
 use Rattle.lua51_lifter.specs.Lift.{rk, condition, concatenated, captures, taken, openResults, statementsBy, pending}
 use Rattle.lua51_lifter.specs.Lift.{statements, onThen}
 use Rattle.lua51_lifter.specs.Blocks.{leads, edgesOf, entryNils, stated, brought, front, codeBlock, entryBlock}
 use Rattle.lua51_lifter.specs.Blocks.{betweenBlock, blocks, naming, graph}
+use Rattle.lua51_lifter.specs.SourceLines.{linesOf, lowest, highest}
 use Rattle.lua51_lifter.specs.Listing.{value, constantItems, blockItems, allBlockItems, functionItems, namedNumbers}
-use Rattle.lua51_lifter.specs.Listing.{items, listing}
+use Rattle.lua51_lifter.specs.Listing.{sourceLines, items, listing}
 
 -- the words; those at 45 and 46 are the captures of the closure before them
 sample-words : List ℕ
@@ -109,7 +111,7 @@ sample-listing =
     ++ bytes "K      0      4      1     97\n"
     ++ bytes "K      1      0\n"
     -- block 0
-    ++ bytes "B      0      0     23      0\n"
+    ++ bytes "B      0      0     23      0      0      0\n"
     -- 0: MOVE 1 0 0
     ++ bytes "S      0      0      1      1      1      1      1      1      0\n"
     -- 1: LOADK 1 1
@@ -161,48 +163,48 @@ sample-listing =
     ++ bytes "E      1      1\n"
     ++ bytes "E      2      2\n"
     -- block 1
-    ++ bytes "B      1     23     24      0\n"
+    ++ bytes "B      1     23     24      0      0      0\n"
     ++ bytes "E      0      4\n"
     -- block 2
-    ++ bytes "B      2     24     25      0\n"
+    ++ bytes "B      2     24     25      0      0      0\n"
     -- 24: LT 0 0 257
     ++ bytes "S     24     24      3      8      1      9     10      1      0      2      1\n"
     ++ bytes "E      1      3\n"
     ++ bytes "E      2      4\n"
     -- block 3
-    ++ bytes "B      3     25     26      0\n"
+    ++ bytes "B      3     25     26      0      0      0\n"
     ++ bytes "E      0      4\n"
     -- block 4
-    ++ bytes "B      4     26     27      0\n"
+    ++ bytes "B      4     26     27      0      0      0\n"
     -- 26: LE 1 0 257
     ++ bytes "S     26     25      3      9     11      1      0      2      1\n"
     ++ bytes "E      1      5\n"
     ++ bytes "E      2      6\n"
     -- block 5
-    ++ bytes "B      5     27     28      0\n"
+    ++ bytes "B      5     27     28      0      0      0\n"
     ++ bytes "E      0      6\n"
     -- block 6
-    ++ bytes "B      6     28     29      0\n"
+    ++ bytes "B      6     28     29      0      0      0\n"
     -- 28: TEST 1 0 0
     ++ bytes "S     28     26      3      8      1      1      1\n"
     ++ bytes "E      1      7\n"
     ++ bytes "E      2      8\n"
     -- block 7
-    ++ bytes "B      7     29     30      0\n"
+    ++ bytes "B      7     29     30      0      0      0\n"
     ++ bytes "E      0      8\n"
     -- block 8
-    ++ bytes "B      8     30     31      0\n"
+    ++ bytes "B      8     30     31      0      0      0\n"
     -- 30: TESTSET 1 0 1
     ++ bytes "S     30     27      3      1      0\n"
     ++ bytes "E      1      9\n"
     ++ bytes "E      2     10\n"
     -- block 9
-    ++ bytes "B      9     31     32      0\n"
+    ++ bytes "B      9     31     32      0      0      0\n"
     -- in front, of TESTSET at 30
     ++ bytes "S     30     27      1      1      1      1      1      1      0\n"
     ++ bytes "E      0     10\n"
     -- block 10
-    ++ bytes "B     10     32     39      0\n"
+    ++ bytes "B     10     32     39      0      0      0\n"
     -- 32: CALL 1 2 3
     ++ bytes "S     32     28      1      2      1      1      1      1      2     14     10      1      1      1      1      2\n"
     -- 33: CALL 1 1 1
@@ -215,32 +217,32 @@ sample-listing =
     ++ bytes "S     38     32      5      2      3      4\n"
     ++ bytes "E      0     12\n"
     -- block 11
-    ++ bytes "B     11     39     40      0\n"
+    ++ bytes "B     11     39     40      0      0      0\n"
     -- in front, of FORLOOP at 40
     ++ bytes "S     40     31      1      1      1      1      5      1      2\n"
     -- 39: MOVE 5 0 0
     ++ bytes "S     39      0      1      1      1      1      5      1      0\n"
     ++ bytes "E      0     12\n"
     -- block 12
-    ++ bytes "B     12     40     41      0\n"
+    ++ bytes "B     12     40     41      0      0      0\n"
     -- 40: FORLOOP 2 39
     ++ bytes "S     40     31      6      2      3      4\n"
     ++ bytes "E      1     11\n"
     ++ bytes "E      2     13\n"
     -- block 13
-    ++ bytes "B     13     41     42      0\n"
+    ++ bytes "B     13     41     42      0      0      0\n"
     -- 41: TFORLOOP 1 0 2
     ++ bytes "S     41     33      1      2      1      1      4      1      5     10      1      1      2      1      2      1      3\n"
     ++ bytes "S     41     33      3      9      9      1      4      3\n"
     ++ bytes "E      1     14\n"
     ++ bytes "E      2     15\n"
     -- block 14
-    ++ bytes "B     14     42     43      0\n"
+    ++ bytes "B     14     42     43      0      0      0\n"
     -- in front, of TFORLOOP at 41
     ++ bytes "S     41     33      1      1      1      1      3      1      4\n"
     ++ bytes "E      0     15\n"
     -- block 15
-    ++ bytes "B     15     43     49      0\n"
+    ++ bytes "B     15     43     49      0      0      0\n"
     -- 43: CLOSE 3 0 0
     ++ bytes "S     43     35      8      5      3      4      5      6      7\n"
     -- 44: CLOSURE 3 0
@@ -251,22 +253,22 @@ sample-listing =
     ++ bytes "S     48      2      1      1      1      1      1      4      0\n"
     ++ bytes "E      0     17\n"
     -- block 16
-    ++ bytes "B     16     49     50      0\n"
+    ++ bytes "B     16     49     50      0      0      0\n"
     -- 49: LOADBOOL 1 1 0
     ++ bytes "S     49      2      1      1      1      1      1      4      1\n"
     ++ bytes "E      0     17\n"
     -- block 17
-    ++ bytes "B     17     50     52      0\n"
+    ++ bytes "B     17     50     52      0      0      0\n"
     -- 51: RETURN 1 0 0
     ++ bytes "S     51     30      4      1     10      1      1      0\n"
     -- block 18
-    ++ bytes "B     18     52     53      0\n"
+    ++ bytes "B     18     52     53      0      0      0\n"
     -- 52: RETURN 0 1 0
     ++ bytes "S     52     30      4      0\n"
     -- block 19
-    ++ bytes "B     19     53     53      0\n"
+    ++ bytes "B     19     53     53      0      0      0\n"
     -- the entry block
-    ++ bytes "B     20     53     53      1\n"
+    ++ bytes "B     20     53     53      1      0      0\n"
     ++ bytes "S     53     99      1      1      1      1      1      3\n"
     ++ bytes "S     53     99      1      1      1      1      2      3\n"
     ++ bytes "S     53     99      1      1      1      1      3      3\n"
@@ -278,7 +280,8 @@ sample-listing =
 
 sample-accepted : check sample ≡ fine
 unfolding targetOf sum times opOf row rowOf claims leader firstRefusal headFault lastFault operand operandFault landsInside tests
-    wordVerdict opener user slot matches unused-results missing-results allCaptures reaches reached useVerdict check sample sample-words
+    wordVerdict opener user slot matches unused-results missing-results allCaptures reaches reached useVerdict lineVerdict check
+    sample sample-words
 sample-accepted = refl
 
 sample-listed : listing sample sample-constants ≡ sample-listing
@@ -286,12 +289,13 @@ unfolding targetOf flatMap digits decimal column line bytes over sum times opOf 
     leaving exits entering isLoop thenOf diverted betweenOf count expr exprs tailNumbers run registers rk condition
     concatenated captures taken openResults statementsBy pending statements onThen leads edgesOf entryNils stated brought front codeBlock
     entryBlock betweenBlock blocks naming graph kindOf value constantItems blockItems allBlockItems functionItems
-    namedNumbers items listing sample sample-words sample-constants sample-listing
+    namedNumbers linesOf lowest highest sourceLines items listing sample sample-words sample-constants sample-listing
 sample-listed = refl
 
 -- ------------------------------------------------------------ a between block
 
--- FORLOOP to the next word (document 01's P6): Then goes by way of a between block, and Else skips it
+-- FORLOOP to the next word (document 01's P6): Then goes by way of a between block, and Else skips it. The lines of its two words
+-- are in their blocks alone
 onward : Proto
 onward = record {
   number = 0;
@@ -303,24 +307,24 @@ onward = record {
   kinds = [];
   nested = [];
   nups = [];
-  lines = [];
+  lines = 7 ∷ 3 ∷ [];
   names = 0;
 }
 
 onward-listing : List ℕ
 onward-listing =
     bytes "F      0      3      0      4\n"
-    ++ bytes "B      0      0      1      0\n"
+    ++ bytes "B      0      0      1      0      7      7\n"
     ++ bytes "S      0     31      6      0      1      2\n"
     ++ bytes "E      1      4\n"
     ++ bytes "E      2      1\n"
-    ++ bytes "B      1      1      2      0\n"
+    ++ bytes "B      1      1      2      0      3      3\n"
     ++ bytes "S      1     30      4      0\n"
-    ++ bytes "B      2      2      2      0\n"
-    ++ bytes "B      3      2      2      1\n"
+    ++ bytes "B      2      2      2      0      0      0\n"
+    ++ bytes "B      3      2      2      1      0      0\n"
     ++ bytes "S      2     99      1      1      1      1      3      3\n"
     ++ bytes "E      0      0\n"
-    ++ bytes "B      4      2      2      2\n"
+    ++ bytes "B      4      2      2      2      0      0\n"
     ++ bytes "S      0     31      1      1      1      1      3      1      0\n"
     ++ bytes "E      0      1\n"
 
@@ -329,5 +333,61 @@ unfolding targetOf flatMap digits decimal column line bytes over sum times opOf 
     leaving exits entering isLoop thenOf diverted betweenOf count expr exprs tailNumbers run registers rk condition
     concatenated captures taken openResults statementsBy pending statements onThen leads edgesOf entryNils stated brought front codeBlock
     entryBlock betweenBlock blocks naming graph kindOf value constantItems blockItems allBlockItems functionItems
-    namedNumbers items listing onward onward-listing
+    namedNumbers linesOf lowest highest sourceLines items listing onward onward-listing
 onward-listed = refl
+
+-- ------------------------------------------------------------ source lines
+
+-- R(0) gets R(0) three times, and RETURN; or a CALL behind the first, whose open results nothing uses
+lined : List ℕ → List ℕ → Proto
+lined words lines = record {
+  number = 0;
+  parameters = 1;
+  upvalues = 0;
+  flags = 0;
+  stack = 1;
+  words = words;
+  kinds = [];
+  nested = [];
+  nups = [];
+  lines = lines;
+  names = 0;
+}
+
+moves : List ℕ
+moves = abc MOVE 0 0 0 ∷ abc MOVE 0 0 0 ∷ abc MOVE 0 0 0 ∷ abc RETURN 0 1 0 ∷ []
+
+unused : List ℕ
+unused = abc MOVE 0 0 0 ∷ abc CALL 0 1 0 ∷ abc MOVE 0 0 0 ∷ abc RETURN 0 1 0 ∷ []
+
+-- neither the lowest line nor the highest is that of the first word or of the last
+lined-listing : List ℕ
+lined-listing =
+    bytes "F      0      1      0      1\n"
+    ++ bytes "B      0      0      4      0      2      9\n"
+    ++ bytes "S      0      0      1      1      1      1      0      1      0\n"
+    ++ bytes "S      1      0      1      1      1      1      0      1      0\n"
+    ++ bytes "S      2      0      1      1      1      1      0      1      0\n"
+    ++ bytes "S      3     30      4      0\n"
+    ++ bytes "B      1      4      4      0      0      0\n"
+    ++ bytes "B      2      4      4      1      0      0\n"
+    ++ bytes "E      0      0\n"
+
+lined-listed : listing (lined moves (5 ∷ 9 ∷ 2 ∷ 4 ∷ [])) [] ≡ lined-listing
+unfolding targetOf flatMap digits decimal column line bytes over sum times opOf row rowOf claims leader blockOf leaderFrom past
+    leaving exits entering isLoop thenOf diverted betweenOf count expr exprs tailNumbers run registers rk condition
+    concatenated captures taken openResults statementsBy pending statements onThen leads edgesOf entryNils stated brought front codeBlock
+    entryBlock betweenBlock blocks naming graph kindOf value constantItems blockItems allBlockItems functionItems
+    namedNumbers linesOf lowest highest sourceLines items listing lined moves lined-listing
+lined-listed = refl
+
+-- 15: 'a line above 999,999, read as unsigned; place its word; tested after 12 to 14'
+lines-judged : only (check (lined moves (5 ∷ 999999 ∷ 0 ∷ 4 ∷ [])))
+    ++ only (check (lined moves (5 ∷ 1000000 ∷ 2 ∷ 4294967295 ∷ [])))
+    ++ only (check (lined moves (5 ∷ 9 ∷ 2 ∷ 4294967295 ∷ [])))
+    ++ only (check (lined unused (4294967295 ∷ 9 ∷ 2 ∷ 4 ∷ [])))
+    ≡ fine ∷ wrong 15 1 ∷ wrong 15 3 ∷ wrong 12 1 ∷ []
+unfolding targetOf sum times opOf row rowOf claims leader firstRefusal headFault lastFault operand operandFault landsInside tests
+    wordVerdict opener user slot matches unused-results missing-results allCaptures reaches reached useVerdict lineVerdict check
+    lined moves unused
+lines-judged = refl

@@ -9,4 +9,5 @@ pub mod Naming
 pub mod Columns
 pub mod Tails
 pub mod WordBehind
+pub mod LinesShown
 pub mod Examples

@@ -3,10 +3,11 @@ use mathlib.Core.Bool.{Bool, true, false, not, _&&_, _||_}
 use Prim.Native.Nat.{ℕ, zero, suc, _+_, _<_, _≤_, _-_}
 use native.Mathlib.Omega.{arith}
 use mathlib.Core.Path.{_≡_, refl, subst}
+use lib.Dec.{ltb}
 use Rattle.lua51_lifter.specs.Check.{refuseIf, Verdict, firstRefusal, fine, _else_, wrong, check, wordVerdict}
 use Rattle.lua51_lifter.specs.Check.{useVerdict, operandFault, headFault, unused-results, lastFault}
-use Rattle.lua51_lifter.specs.Check.{missing-results, landsInside, tests, allCaptures, reached}
-use Rattle.lua51_instruction.specs.Proto.{Proto, size, flowAt, is, capturesOf}
+use Rattle.lua51_lifter.specs.Check.{missing-results, landsInside, tests, allCaptures, reached, most-line, lineVerdict}
+use Rattle.lua51_instruction.specs.Proto.{Proto, size, flowAt, is, capturesOf, lineAt}
 use Rattle.lua51_instruction.specs.Word.{JMP, TESTSET, CLOSURE}
 
 pub else-first : (v w : Verdict) → v else w ≡ fine → v ≡ fine
@@ -66,10 +67,15 @@ module _ (p : Proto) where
       (else-from (refuse-from (is p i CLOSURE && not (allCaptures p i (capturesOf p i))) 13 i (omega arith))
       (refuse-from (is p i TESTSET && reached p (i + 1)) 14 i (omega arith)))
 
+  line-from : (i : ℕ) → From 7 (lineVerdict p i)
+  unfolding lineVerdict
+  line-from i = refuse-from (ltb most-line (lineAt p i)) 15 i (omega arith)
+
   -- a function is refused by 7 or a later one
   pub check-from : From 7 (check p)
   unfolding check
   check-from =
       else-from (refuse-from (headFault p) 7 0 (omega arith))
       (else-from (refuse-from (lastFault p) 8 (size p - 1) (omega arith))
-      (else-from (first-from (wordVerdict p) word-from 0 (size p)) (first-from (useVerdict p) use-from 0 (size p))))
+      (else-from (first-from (wordVerdict p) word-from 0 (size p))
+      (else-from (first-from (useVerdict p) use-from 0 (size p)) (first-from (lineVerdict p) line-from 0 (size p)))))

@@ -1,4 +1,5 @@
--- The numbers and places of document 01 for what a check finds ('Refusals from the input', 7 to 14).
+-- The numbers and places of the documents for what a check finds (document 01, 'Refusals from the input', 7 to 14; document
+-- 02, 15).
 use Prim.{Unit}
 use Prim.Native.Nat.{ℕ, _-_, _≤_}
 use Rattle.lua51_lifter.specs.Check as check
@@ -7,7 +8,7 @@ use Rattle.lua51_lifter.specs.declared.verdict.Verdict.{Verdict}
 use Rattle.lua51_lifter.specs.declared.verdict.Verdict.the-variants.{Fine, Refused}
 use Rattle.lua51_lifter.specs.declared.verdict.FunctionFault.{FunctionFault}
 use Rattle.lua51_lifter.specs.declared.verdict.FunctionFault.the-variants.{Head, Last, Operand, Target}
-use Rattle.lua51_lifter.specs.declared.verdict.FunctionFault.the-variants.{Jump, Results, Captures, Shared}
+use Rattle.lua51_lifter.specs.declared.verdict.FunctionFault.the-variants.{Jump, Results, Captures, Shared, Line}
 
 -- the number of each fault of a function
 abbrev pub functionFaultNumber : FunctionFault → ℕ
@@ -19,6 +20,7 @@ functionFaultNumber (Jump i) = 11
 functionFaultNumber (Results i) = 12
 functionFaultNumber (Captures i) = 13
 functionFaultNumber (Shared i) = 14
+functionFaultNumber (Line i) = 15
 
 -- its place; 7 has 'Place 0'
 abbrev pub functionFaultPlace : FunctionFault → ℕ
@@ -30,6 +32,7 @@ functionFaultPlace (Jump i) = i
 functionFaultPlace (Results i) = i
 functionFaultPlace (Captures i) = i
 functionFaultPlace (Shared i) = i
+functionFaultPlace (Line i) = i
 
 abbrev pub verdictOf : Verdict → check.Verdict
 verdictOf Fine = fine

@@ -18,21 +18,23 @@ use Rattle.cfg.specs.Graph.{blockOf, entryOf, thenOf, then-edge}
 use Rattle.lua51_lifter.specs.Lift.{statements, onThen, pending}
 use Rattle.lua51_lifter.specs.Blocks.{leads, entryNils, entry-opcode, blocks, Named, unnamed, blockAt}
 use Rattle.lua51_lifter.specs.Listing.{Item, item, statementItem, functionItems, namedNumbers, items}
+use Rattle.lua51_lifter.specs.LinesShown.{no-lines, withoutLines}
 use Rattle.lua51_lifter.specs.Check.{opener, user, check, fine}
 
 -- ------------------------------------------------------------ without the two columns
 
 -- 'what document 01 compares': its S line has the numbers of the statement alone
 unfoldable pub comparedItems : Proto → List Value → List Item
-comparedItems p vs = functionItems run p vs (blocks unnamed p)
+comparedItems p vs = functionItems run no-lines p vs (blocks unnamed p)
 
 -- an S line 'without these two columns', and every other line as it is
 unfoldable pub withoutColumns : Item → Item
 withoutColumns x = item (x .letter) (cond (eqb (x .letter) letter-S) (drop 2 (x .numbers)) (x .numbers))
 
--- 'Without these two columns the lines equal what document 01 compares.'
+-- 'Without these two columns the lines equal what document 01 compares'; 'Comparisons with `Lifter::lift` skip both' lines of a
+-- B line too (document 02, 2)
 abbrev pub ColumnsAlone : Type 0
-ColumnsAlone = (p : Proto) (vs : List Value) → map withoutColumns (items p vs) ≡ comparedItems p vs
+ColumnsAlone = (p : Proto) (vs : List Value) → map withoutColumns (map withoutLines (items p vs)) ≡ comparedItems p vs
 
 -- ------------------------------------------------------------ the statements that name a word
 

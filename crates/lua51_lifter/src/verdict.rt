@@ -1,4 +1,4 @@
-// The verdict on a function: refusals 7 to 14.
+// The verdict on a function: refusals 7 to 15.
 
 // What a check finds: nothing, or the first fault.
 pub enum Verdict {
@@ -24,4 +24,6 @@ pub enum FunctionFault {
     Captures(usize),
     // 14: the word behind a TESTSET can be reached from elsewhere.
     Shared(usize),
+    // 15: a source line is above 999,999.
+    Line(usize),
 }
