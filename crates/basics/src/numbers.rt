@@ -1,6 +1,6 @@
-// Numbers as numbers of more bits, and differences that stop at 0.
+// Numbers as numbers of more bits, differences that stop at 0, and the smaller and the larger of two numbers.
 ghost use mathlib.Core.Path.{_≡_};
-ghost use Prim.Native.Nat.{_-_, _<_};
+ghost use Prim.Native.Nat.{_-_, _<_, min, max};
 
 // A byte as a number of 32 bits.
 pub fn wide(b: u8) -> u32
@@ -41,4 +41,24 @@ pub fn before(n: usize) -> usize
         return n - 1;
     }
     0
+}
+
+// The smaller of two numbers.
+pub fn least(a: usize, b: usize) -> usize
+    ensures { λ r. ⌜ r ≡ min a b ⌝ }
+{
+    if a < b {
+        return a;
+    }
+    b
+}
+
+// The larger of two numbers.
+pub fn greatest(a: usize, b: usize) -> usize
+    ensures { λ r. ⌜ r ≡ max a b ⌝ }
+{
+    if a < b {
+        return b;
+    }
+    a
 }

@@ -1,11 +1,12 @@
 -- What the printers of blocks go by: a function in which nothing is refused, what the code holds of it, and the notes of its graph.
-use Prim.Native.Nat.{ℕ, _≤_}
+use Prim.Native.Nat.{ℕ, _-_, _≤_}
 use mathlib.Core.Bool.{cond}
 use mathlib.Core.List.{List, []}
 use mathlib.Core.Path.{_≡_}
 use Rattle.lua51_instruction.specs.Proto.{Proto, size}
 use Rattle.lua51_deserializer.specs.Chunk.{most-words}
-use Rattle.lua51_function.specs.Function.{Stands}
+use Rattle.basics.specs.Range.{over, only}
+use Rattle.lua51_function.specs.Function.{Stands, lineIn, LinesIn}
 use Rattle.lua51_function.specs.declared.function.Head.{Head}
 use Rattle.cfg.specs.Graph.{leader, blockOf, diverted, betweenOf}
 use Rattle.cfg_notes.specs.Notes.{notesOf}
@@ -24,17 +25,22 @@ pub record Checked (p : Proto) (ws ns : List ℕ) : Type 0 where
   pub notes : ns ≡ notesOf p
 
 -- nothing in p is refused and it is within the limits, and the code holds it: its head, its words, the numbers of its nested
--- functions (fs) and their counts of upvalues (us)
-pub record Held (p : Proto) (h : Head) (ws fs us : List ℕ) : Type 0 where
+-- functions (fs) and their counts of upvalues (us), and the bytes of its word lines (ls)
+pub record Held (p : Proto) (h : Head) (ws fs us ls : List ℕ) : Type 0 where
   pub fine : check p ≡ fine
   pub few : size p ≤ most-words
   pub kinds : List ℕ
   pub stands : Stands p h ws kinds fs us
+  pub lines : LinesIn p ls
+
+-- the lines of the words from `first` to before `past`, by the bytes of word lines
+abbrev pub linesIn : List ℕ → ℕ → ℕ → List ℕ
+linesIn ls first past = over (λ i. only (lineIn ls i)) first (past - first)
 
 -- the lines of the block whose range starts at word j, where one does
 unfoldable pub codeLines : Proto → ℕ → List ℕ
-codeLines p j = cond (leader p j) (blockLine (blockOf p j) (codeBlock naming p j)) []
+codeLines p j = cond (leader p j) (blockLine p (blockOf p j) (codeBlock naming p j)) []
 
 -- the lines of the between block of word i, where it has one
 unfoldable pub betweenLines : Proto → ℕ → List ℕ
-betweenLines p i = cond (diverted p i) (blockLine (betweenOf p i) (betweenBlock naming p i)) []
+betweenLines p i = cond (diverted p i) (blockLine p (betweenOf p i) (betweenBlock naming p i)) []

@@ -15,6 +15,9 @@ ghost use Rattle.lua51_statements.specs.Lines.{lineWithin};
 ghost use Rattle.block_lines.specs.Lines.{run-numbers, Checked, Held, betweenLines};
 use crate::edges::put_edge_line;
 use crate::edges::put_exits;
+use crate::sources::NO_LINES;
+use crate::sources::Span;
+use crate::sources::span_of;
 use basics::numbers::minus;
 use cfg::betweens::then_of;
 use cfg::edges::PLAIN;
@@ -47,10 +50,16 @@ fn put_block_line(
     first: usize,
     past: usize,
     kind: usize,
+    span: Span,
 ) -> usize
-    ensures { λ r. ⌜ output (now (out .exit)) r ≡ puts (output (now (out .entry)) at) (line letter-B (number ∷ first ∷ past ∷ kind ∷ [])) ⌝ }
+    ensures { λ r. ⌜ output (now (out .exit)) r ≡ puts (output (now (out .entry)) at) (line letter-B (number ∷ first ∷ past ∷ kind ∷ span .lowest ∷ span .highest ∷ [])) ⌝ }
 {
-    put_wide_line(out, at, LETTER_B, &[number, first, past, kind])
+    put_wide_line(
+        out,
+        at,
+        LETTER_B,
+        &[number, first, past, kind, span.lowest, span.highest],
+    )
 }
 
 // Prints what stands at the front of the block whose range starts at word t.
@@ -82,15 +91,17 @@ pub fn put_code_block(
     words: &[u32],
     nested: &[u32],
     nups: &[u8],
+    lines: &[u8],
     notes: &[u16],
     j: usize,
 ) -> usize
-    ensures { λ r. ⌜ ((p : Proto) → Held p head (now (words .entry)) (now (nested .entry)) (now (nups .entry)) → run-numbers ≤ length (now (run .entry)) → now (notes .entry) ≡ notesOf p → j ≤ size p → leader p j ≡ true
-        → output (now (out .exit)) r ≡ puts (output (now (out .entry)) at) (blockLine (blockOf p j) (codeBlock naming p j))) ⌝ }
+    ensures { λ r. ⌜ ((p : Proto) → Held p head (now (words .entry)) (now (nested .entry)) (now (nups .entry)) (now (lines .entry)) → run-numbers ≤ length (now (run .entry)) → now (notes .entry) ≡ notesOf p → j ≤ size p → leader p j ≡ true
+        → output (now (out .exit)) r ≡ puts (output (now (out .entry)) at) (blockLine p (blockOf p j) (codeBlock naming p j))) ⌝ }
     ensures anyway { λ r. ⌜ Prints (output (now (out .entry)) at) (output (now (out .exit)) r) ⌝ }
 {
     let end = range_end(notes, j);
-    let first = put_block_line(out, at, block_at(notes, j), j, end, CODE);
+    let span = span_of(lines, j, end);
+    let first = put_block_line(out, at, block_at(notes, j), j, end, CODE, span);
     let front = put_front(out, first, run, words, notes, j);
     let body = put_body(out, front, run, head, words, nested, nups, j, end, 0);
     put_exits(out, body.at, words, notes, j, end)
@@ -99,10 +110,10 @@ pub fn put_code_block(
 // Prints the entry block of a function of n words: its registers behind the parameters get nil.
 pub fn put_entry(out: &mut [u8], at: usize, head: Head, number: usize, n: usize) -> usize
     ensures { λ r. ⌜ ((p : Proto) → p .parameters ≡ head .parameters → p .stack ≡ head .stack → n ≡ size p
-        → output (now (out .exit)) r ≡ puts (output (now (out .entry)) at) (blockLine number (entryBlock naming p))) ⌝ }
+        → output (now (out .exit)) r ≡ puts (output (now (out .entry)) at) (blockLine p number (entryBlock naming p))) ⌝ }
     ensures anyway { λ r. ⌜ Prints (output (now (out .entry)) at) (output (now (out .exit)) r) ⌝ }
 {
-    let first = put_block_line(out, at, number, n, n, ENTRY);
+    let first = put_block_line(out, at, number, n, n, ENTRY, NO_LINES);
     let registers = minus(head.stack as u16, head.parameters as u16);
     let body = put_nils(out, first, n, ENTRY_OPCODE, head.parameters, registers);
     put_edge_line(out, body, PLAIN, 0)
@@ -126,7 +137,7 @@ pub fn put_between(
         return at;
     }
     let n = words.len();
-    let first = put_block_line(out, at, between, n, n, BETWEEN);
+    let first = put_block_line(out, at, between, n, n, BETWEEN, NO_LINES);
     let body = put_on_then(out, first, run, words, i);
     put_edge_line(out, body, PLAIN, block_at(notes, then_of(words, i)))
 }

@@ -56,6 +56,8 @@ fn check_function(
     let n = loaded.words;
     let constants = loaded.kinds;
     let inner = loaded.nested;
+    let lines = loaded.lines;
+    let locals = loaded.locals;
     let marks = n + 1;
     check(
         loaded.head,
@@ -63,6 +65,7 @@ fn check_function(
         &kinds[..constants],
         &nested[..inner],
         &nups[..inner],
+        &s[lines..locals],
         &mut leaders[..marks],
         &mut targets[..marks],
     )

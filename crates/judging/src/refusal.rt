@@ -1,4 +1,5 @@
-// Refusals (document 01, 'Refusals from the input' and 'Refusals from the state'), their numbers, and the line that prints these.
+// Refusals (document 01, 'Refusals from the input' and 'Refusals from the state'; document 02, 2), their numbers, and the line that
+// prints these.
 use lines::LETTER_X;
 use lines::put_wide_line;
 use lua51_deserializer::fields::ChunkFault;
@@ -15,7 +16,7 @@ pub enum Refusal {
     // From the input.
     // 1 to 6: what is wrong with the chunk's bytes.
     Chunk(ChunkFault),
-    // 7 to 14: a function, by its number, and what is wrong with it.
+    // 7 to 15: a function, by its number, and what is wrong with it.
     Function(u32, FunctionFault),
     // From the state, with the reading's next function.
     // 31: the reading is not opened.
@@ -57,7 +58,7 @@ fn chunk_numbers(fault: ChunkFault) -> Numbers
     }
 }
 
-// 7 to 14, of function f.
+// 7 to 15, of function f.
 fn function_numbers(f: usize, fault: FunctionFault) -> Numbers
     ensures { λ r. ⌜ refusalBy r ≡ refusal (functionFaultNumber fault) f (functionFaultPlace fault) ⌝ }
 {
@@ -70,6 +71,7 @@ fn function_numbers(f: usize, fault: FunctionFault) -> Numbers
         FunctionFault::Results(place) => refused_at(12, f, place),
         FunctionFault::Captures(place) => refused_at(13, f, place),
         FunctionFault::Shared(place) => refused_at(14, f, place),
+        FunctionFault::Line(place) => refused_at(15, f, place),
     }
 }
 

@@ -24,17 +24,18 @@ fn put_range(
     words: &[u32],
     nested: &[u32],
     nups: &[u8],
+    lines: &[u8],
     notes: &[u16],
     j: usize,
 ) -> usize
-    ensures { λ r. ⌜ ((p : Proto) → Held p head (now (words .entry)) (now (nested .entry)) (now (nups .entry)) → run-numbers ≤ length (now (run .entry)) → now (notes .entry) ≡ notesOf p → j ≤ size p
+    ensures { λ r. ⌜ ((p : Proto) → Held p head (now (words .entry)) (now (nested .entry)) (now (nups .entry)) (now (lines .entry)) → run-numbers ≤ length (now (run .entry)) → now (notes .entry) ≡ notesOf p → j ≤ size p
         → output (now (out .exit)) r ≡ puts (output (now (out .entry)) at) (codeLines p j)) ⌝ }
     ensures anyway { λ r. ⌜ Prints (output (now (out .entry)) at) (output (now (out .exit)) r) ⌝ }
 {
     if start_at(notes, j) == 0 {
         return at;
     }
-    put_code_block(out, at, run, head, words, nested, nups, notes, j)
+    put_code_block(out, at, run, head, words, nested, nups, lines, notes, j)
 }
 
 // Prints the code blocks, ascending.
@@ -46,16 +47,17 @@ fn put_code_blocks(
     words: &[u32],
     nested: &[u32],
     nups: &[u8],
+    lines: &[u8],
     notes: &[u16],
 ) -> usize
-    ensures { λ r. ⌜ ((p : Proto) → Held p head (now (words .entry)) (now (nested .entry)) (now (nups .entry)) → run-numbers ≤ length (now (run .entry)) → now (notes .entry) ≡ notesOf p
+    ensures { λ r. ⌜ ((p : Proto) → Held p head (now (words .entry)) (now (nested .entry)) (now (nups .entry)) (now (lines .entry)) → run-numbers ≤ length (now (run .entry)) → now (notes .entry) ≡ notesOf p
         → output (now (out .exit)) r ≡ puts (output (now (out .entry)) at) (over (codeLines p) 0 (size p + 1))) ⌝ }
     ensures anyway { λ r. ⌜ Prints (output (now (out .entry)) at) (output (now (out .exit)) r) ⌝ }
 {
     let mut next = at;
     let mut j = 0;
     while j <= words.len() {
-        next = put_range(out, next, run, head, words, nested, nups, notes, j);
+        next = put_range(out, next, run, head, words, nested, nups, lines, notes, j);
         j += 1;
     }
     next
@@ -86,13 +88,14 @@ pub fn put_blocks(
     words: &[u32],
     nested: &[u32],
     nups: &[u8],
+    lines: &[u8],
     notes: &[u16],
 ) -> usize
-    ensures { λ r. ⌜ ((p : Proto) → Held p head (now (words .entry)) (now (nested .entry)) (now (nups .entry)) → run-numbers ≤ length (now (run .entry)) → now (notes .entry) ≡ notesOf p
-        → output (now (out .exit)) r ≡ puts (output (now (out .entry)) at) (blockLines 0 (graph p))) ⌝ }
+    ensures { λ r. ⌜ ((p : Proto) → Held p head (now (words .entry)) (now (nested .entry)) (now (nups .entry)) (now (lines .entry)) → run-numbers ≤ length (now (run .entry)) → now (notes .entry) ≡ notesOf p
+        → output (now (out .exit)) r ≡ puts (output (now (out .entry)) at) (blockLines p 0 (graph p))) ⌝ }
     ensures anyway { λ r. ⌜ Prints (output (now (out .entry)) at) (output (now (out .exit)) r) ⌝ }
 {
-    let codes = put_code_blocks(out, at, run, head, words, nested, nups, notes);
+    let codes = put_code_blocks(out, at, run, head, words, nested, nups, lines, notes);
     let n = words.len();
     let entry = put_entry(out, codes, head, start_at(notes, n), n);
     put_betweens(out, entry, run, words, notes)

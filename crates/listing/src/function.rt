@@ -40,10 +40,11 @@ fn put_loaded(
     words: &[u32],
     nested: &[u32],
     nups: &[u8],
+    lines: &[u8],
     run: &mut [u32],
     notes: &[u16],
 ) -> usize
-    ensures { λ r. ⌜ ((p : Proto) (vs : List Value) → Held p (loaded .head) (now (words .entry)) (now (nested .entry)) (now (nups .entry)) → run-numbers ≤ length (now (run .entry)) → now (notes .entry) ≡ notesOf p
+    ensures { λ r. ⌜ ((p : Proto) (vs : List Value) → Held p (loaded .head) (now (words .entry)) (now (nested .entry)) (now (nups .entry)) (now (lines .entry)) → run-numbers ≤ length (now (run .entry)) → now (notes .entry) ≡ notesOf p
         → AreRead (now (s .entry)) (placesFrom (now (s .entry)) (loaded .first) (loaded .constants)) vs
         → output (now (out .exit)) r ≡ puts (output (now (out .entry)) at) (listing p vs)) ⌝ }
     ensures anyway { λ r. ⌜ Prints (output (now (out .entry)) at) (output (now (out .exit)) r) ⌝ }
@@ -51,7 +52,7 @@ fn put_loaded(
     let head = loaded.head;
     let constants = put_function_line(out, at, head);
     let blocks = put_constant_lines(out, constants, s, loaded.first, loaded.constants);
-    put_blocks(out, blocks, run, head, words, nested, nups, notes)
+    put_blocks(out, blocks, run, head, words, nested, nups, lines, notes)
 }
 
 // Prints the listing of a function that is loaded from the output's start, if the output is long enough: it is counted first, by
@@ -63,20 +64,32 @@ fn put_whole(
     words: &[u32],
     nested: &[u32],
     nups: &[u8],
+    lines: &[u8],
     run: &mut [u32],
     notes: &[u16],
 ) -> usize
-    ensures { λ r. ⌜ ((p : Proto) (vs : List Value) → Held p (loaded .head) (now (words .entry)) (now (nested .entry)) (now (nups .entry)) → run-numbers ≤ length (now (run .entry)) → now (notes .entry) ≡ notesOf p
+    ensures { λ r. ⌜ ((p : Proto) (vs : List Value) → Held p (loaded .head) (now (words .entry)) (now (nested .entry)) (now (nups .entry)) (now (lines .entry)) → run-numbers ≤ length (now (run .entry)) → now (notes .entry) ≡ notesOf p
         → AreRead (now (s .entry)) (placesFrom (now (s .entry)) (loaded .first) (loaded .constants)) vs
         → output (now (out .exit)) r ≡ printed true (now (out .entry)) (listing p vs)) ⌝ }
     ensures anyway { λ r. ⌜ Leaves true (now (out .entry)) (now (out .exit)) r ⌝ }
 {
     let mut none = [0u8; 0];
-    let length = put_loaded(&mut none, 0, s, loaded, words, nested, nups, run, notes);
+    let length = put_loaded(
+        &mut none,
+        0,
+        s,
+        loaded,
+        words,
+        nested,
+        nups,
+        lines,
+        run,
+        notes,
+    );
     if out.len() < length {
         return length;
     }
-    put_loaded(out, 0, s, loaded, words, nested, nups, run, notes);
+    put_loaded(out, 0, s, loaded, words, nested, nups, lines, run, notes);
     length
 }
 
@@ -90,19 +103,20 @@ fn put_listing(
     words: &[u32],
     nested: &[u32],
     nups: &[u8],
+    lines: &[u8],
     run: &mut [u32],
     notes: &mut [u16],
 ) -> usize
-    ensures { λ r. ⌜ ((p : Proto) (vs : List Value) → Held p (loaded .head) (now (words .entry)) (now (nested .entry)) (now (nups .entry)) → run-numbers ≤ length (now (run .entry)) → length (now (notes .entry)) ≡ 3 * (size p + 1)
+    ensures { λ r. ⌜ ((p : Proto) (vs : List Value) → Held p (loaded .head) (now (words .entry)) (now (nested .entry)) (now (nups .entry)) (now (lines .entry)) → run-numbers ≤ length (now (run .entry)) → length (now (notes .entry)) ≡ 3 * (size p + 1)
         → AreRead (now (s .entry)) (placesFrom (now (s .entry)) (loaded .first) (loaded .constants)) vs
         → output (now (out .exit)) r ≡ printed whole (now (out .entry)) (listing p vs)) ⌝ }
     ensures anyway { λ r. ⌜ Leaves whole (now (out .entry)) (now (out .exit)) r ⌝ }
 {
     note_graph(words, notes);
     if whole {
-        return put_whole(out, s, loaded, words, nested, nups, run, notes);
+        return put_whole(out, s, loaded, words, nested, nups, lines, run, notes);
     }
-    put_loaded(out, 0, s, loaded, words, nested, nups, run, notes)
+    put_loaded(out, 0, s, loaded, words, nested, nups, lines, run, notes)
 }
 
 // Prints the listing of function f of a chunk from the output's start, with room that is lent.
@@ -129,6 +143,8 @@ fn put_in(
     let loaded = function_at(s, functions, f, words, &mut no_kinds, nested, nups);
     let n = loaded.words;
     let inner = loaded.nested;
+    let lines = loaded.lines;
+    let locals = loaded.locals;
     let noted = PARTS * (n + 1);
     put_listing(
         out,
@@ -138,6 +154,7 @@ fn put_in(
         &words[..n],
         &nested[..inner],
         &nups[..inner],
+        &s[lines..locals],
         run,
         &mut notes[..noted],
     )

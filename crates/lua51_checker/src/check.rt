@@ -1,4 +1,4 @@
-// Checking one function: refusals 7 to 14, in their order.
+// Checking one function: refusals 7 to 15, in their order.
 ghost use mathlib.Core.Path.{_≡_};
 ghost use mathlib.Core.Bool.{cond};
 ghost use mathlib.Core.List.{List};
@@ -6,14 +6,15 @@ ghost use Prim.Native.Nat.{ℕ, _+_, _-_, _/_, _%_, _<_};
 ghost use lib.Dec.{eqb};
 ghost use lib.ListN.{length};
 ghost use Rattle.lua51_instruction.specs.Proto.{Proto, size};
-ghost use Rattle.lua51_function.specs.Function.{Stands};
-ghost use Rattle.lua51_lifter.specs.Check.{headFault, lastFault, wordVerdict, firstRefusal, check};
+ghost use Rattle.lua51_function.specs.Function.{Stands, LinesIn};
+ghost use Rattle.lua51_lifter.specs.Check.{headFault, lastFault, wordVerdict, firstRefusal, lineVerdict, check};
 ghost use Rattle.lua51_lifter.specs.Verdict.{verdictOf, Found};
 ghost use Rattle.lua51_uses.specs.Judgement.{checkWords};
 use basics::numbers::before;
 use basics::slices::word_after;
 use basics::slices::word_at;
 use lua51_function::function::Head;
+use lua51_function::function::line_at;
 use lua51_instruction::instruction::decode;
 use lua51_instruction::instruction::flow_of;
 use lua51_instruction::instruction::opcode_of;
@@ -105,6 +106,26 @@ fn words_verdict(head: Head, words: &[u32], kinds: &[u8], nested: &[u32]) -> Ver
     Verdict::Fine
 }
 
+// ------------------------------------------------------------ 15: source lines
+
+// The highest line.
+const MOST_LINE: usize = 999999;
+
+// The verdict on the lines of n words: the first that is too high.
+fn lines_verdict(lines: &[u8], n: usize) -> Verdict
+    ensures { λ r. ⌜ ((p : Proto) → LinesIn p (now (lines .entry)) → verdictOf r ≡ firstRefusal (lineVerdict p) 0 n) ⌝ }
+    ensures anyway { λ r. ⌜ Found 15 15 n (verdictOf r) ⌝ }
+{
+    let mut i = 0;
+    while i < n {
+        if MOST_LINE < line_at(lines, i) {
+            return Verdict::Refused(FunctionFault::Line(i));
+        }
+        i += 1;
+    }
+    Verdict::Fine
+}
+
 // ------------------------------------------------------------ all of them
 
 // The verdict on a function's head, and on each of its words by itself.
@@ -121,22 +142,28 @@ fn check_words(head: Head, words: &[u32], kinds: &[u8], nested: &[u32]) -> Verdi
 }
 
 // The verdict on a function. The marks of its leaders, and of its jump targets and skips, are put into what is lent for them, one
-// for each word and one behind the last. Whatever is lent, a fault is one of 7 to 14, at one of the words or at 0.
+// for each word and one behind the last. Whatever is lent, a fault is one of 7 to 15, at one of the words or at 0.
 pub fn check(
     head: Head,
     words: &[u32],
     kinds: &[u8],
     nested: &[u32],
     nups: &[u8],
+    lines: &[u8],
     leaders: &mut [u8],
     targets: &mut [u8],
 ) -> Verdict
-    ensures { λ r. ⌜ ((p : Proto) → Stands p head (now (words .entry)) (now (kinds .entry)) (now (nested .entry)) (now (nups .entry)) → size p < length (now (leaders .entry)) → size p < length (now (targets .entry)) → verdictOf r ≡ check p) ⌝ }
-    ensures anyway { λ r. ⌜ Found 7 14 (length (now (words .entry))) (verdictOf r) ⌝ }
+    ensures { λ r. ⌜ ((p : Proto) → Stands p head (now (words .entry)) (now (kinds .entry)) (now (nested .entry)) (now (nups .entry)) → LinesIn p (now (lines .entry)) → size p < length (now (leaders .entry)) → size p < length (now (targets .entry)) → verdictOf r ≡ check p) ⌝ }
+    ensures anyway { λ r. ⌜ Found 7 15 (length (now (words .entry))) (verdictOf r) ⌝ }
 {
     let verdict = check_words(head, words, kinds, nested);
     let Verdict::Fine = verdict else {
         return verdict;
     };
-    check_uses(words, nups, leaders, targets)
+    let used = check_uses(words, nups, leaders, targets);
+    let lined = lines_verdict(lines, words.len());
+    let Verdict::Fine = used else {
+        return used;
+    };
+    lined
 }

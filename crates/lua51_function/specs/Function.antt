@@ -1,9 +1,9 @@
 -- The function that the code holds as a head and lists of numbers, and what the buffers hold once it is read.
 use mathlib.Core.List.{List, [], _∷_, _++_}
 use mathlib.Core.Path.{_≡_}
-use Prim.Native.Nat.{ℕ, zero, suc, _+_, _*_, _≤_, _<_, min}
+use Prim.Native.Nat.{ℕ, zero, suc, _+_, _-_, _*_, _≤_, _<_, min}
 use lib.ListN.{getD, length, take, drop}
-use Rattle.lua51_instruction.specs.Proto.{Proto}
+use Rattle.lua51_instruction.specs.Proto.{Proto, lineAt}
 use Rattle.lua51_deserializer.specs.Chunk.{here, _then_, offset, constant, head, code, constants, lines, locals, names, Place, nowhere, walk, bytesOf, wordsOf, constantsOf, nestedIn, protoAt, most, most-bytes, most-flags, most-functions, most-words, constantsAt}
 use Rattle.lua51_value.specs.Bytes.{byteAt, intAt}
 use Rattle.lua51_value.specs.Value.{kindOf, valueAt, Nil}
@@ -17,7 +17,7 @@ use Rattle.lua51_function.specs.declared.function.Head.{Head}
 use Rattle.lua51_function.specs.declared.function.Loaded.{Loaded}
 
 -- p is the function whose head is h, and whose words (ws), kinds of constants (ks), numbers of nested functions (ns) and their
--- counts of upvalues (us) are these. Of its word lines only the count is held.
+-- counts of upvalues (us) are these. Of its word lines only the count is held: they are read from the chunk's bytes (`LinesIn`).
 pub record Stands (p : Proto) (h : Head) (ws ks ns us : List ℕ) : Type 0 where
   pub number : p .number ≡ h .number
   pub parameters : p .parameters ≡ h .parameters
@@ -73,6 +73,20 @@ constantPlaces s ps f = constantPlacesOf s (getD ps f nowhere .start)
 abbrev pub kindAt : List ℕ → ℕ → ℕ
 kindAt s i = kindOf (valueAt s i)
 
+-- ------------------------------------------------------------ word lines
+
+-- the line of word i among the bytes of word lines, 4 of them each
+abbrev pub lineIn : List ℕ → ℕ → ℕ
+lineIn ls i = intAt ls (4 * i)
+
+-- ls are the bytes of p's word lines
+abbrev pub LinesIn : Proto → List ℕ → Type 0
+LinesIn p ls = (i : ℕ) → lineAt p i ≡ lineIn ls i
+
+-- the bytes of s from one place to before another
+abbrev pub part : List ℕ → ℕ → ℕ → List ℕ
+part s from past = take (past - from) (drop from s)
+
 -- ------------------------------------------------------------ buffers
 
 -- a buffer held `before` and then `after`: xs, as far as there is room, n of them; and behind them what stood there. So n is a
@@ -96,11 +110,14 @@ headOf p = record {
 }
 
 -- Function f of the chunk s, among those at ps, is loaded: its head, the places of its constants by the first and their count,
--- and in the buffers its words, the kinds of its constants, the numbers of the functions nested in it and their counts of
--- upvalues. Each buffer as it was and as it is.
+-- the part of s that its word lines are, and in the buffers its words, the kinds of its constants, the numbers of the functions
+-- nested in it and their counts of upvalues. Each buffer as it was and as it is.
 pub record Loads (s : List ℕ) (ps : List Place) (f : ℕ) (r : Loaded) (ws ws′ ks ks′ ns ns′ us us′ : List ℕ) : Type 0 where
   pub head : r .head ≡ headOf (protoAt s ps f)
   pub places : placesFrom s (r .first) (r .constants) ≡ constantPlaces s ps f
+  pub from : r .lines ≤ r .locals
+  pub inside : r .locals ≤ length s
+  pub lines : LinesIn (protoAt s ps f) (part s (r .lines) (r .locals))
   pub words : Filled (r .words) (length ws) (protoAt s ps f .words) ws ws′
   pub kinds : Filled (r .kinds) (length ks) (protoAt s ps f .kinds) ks ks′
   pub nested : Filled (r .nested) (min (length ns) (length us)) (protoAt s ps f .nested) ns ns′
@@ -155,14 +172,15 @@ pub record Roomy (p : Proto) (ws ns us : List ℕ) : Type 0 where
   pub nested : most-functions ≤ length ns
   pub nups : most-functions ≤ length us
 
--- the buffers hold all of function f, as many of each list as r says, and its kinds where there was room for them; from the
--- place of its first constant on, each was read, and its value is the function's
+-- the buffers hold all of function f, as many of each list as r says, and its kinds where there was room for them; its word lines
+-- are that part of s; from the place of its first constant on, each was read, and its value is the function's
 pub record Holds (s : List ℕ) (ps : List Place) (f : ℕ) (r : Loaded) (ws ks ns us : List ℕ) : Type 0 where
   pub stands : Stands (protoAt s ps f) (r .head) (take (r .words) ws) (protoAt s ps f .kinds) (take (r .nested) ns) (take (r .nested) us)
   pub kinds : length (protoAt s ps f .kinds) ≤ length ks → protoAt s ps f .kinds ≡ take (r .kinds) ks
   pub words : length (protoAt s ps f .words) ≡ r .words
   pub nested : length (protoAt s ps f .nested) ≡ r .nested
   pub limits : InLimits (protoAt s ps f)
+  pub lines : LinesIn (protoAt s ps f) (part s (r .lines) (r .locals))
   pub places : placesFrom s (r .first) (r .constants) ≡ constantPlaces s ps f
   pub constant : (i : ℕ) → i < length (constantPlaces s ps f) → (j : ℕ) × (constant s (getD (constantPlaces s ps f) i 0) ≡ here j)
   pub value : (i : ℕ) → i < length (constantPlaces s ps f) → valueAt s (getD (constantPlaces s ps f) i 0) ≡ getD (constantsAt s ps f) i Nil

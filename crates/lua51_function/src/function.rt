@@ -1,4 +1,5 @@
 // One function of a chunk, in plain buffers: its head by value, and its lists in arrays that the caller lends.
+use basics::numbers::least;
 use basics::slices::byte_at;
 use lua51_deserializer::chunk::Functions;
 use lua51_deserializer::chunk::MOST_FUNCTIONS;
@@ -23,7 +24,7 @@ ghost use lib.ListN.{getD, length};
 ghost use Rattle.lua51_deserializer.specs.Chunk.{ints, nowhere, bytesOf, wordsOf, constantsOf, nestedIn, protoAt};
 ghost use Rattle.lua51_value.specs.Bytes.{intAt};
 ghost use Rattle.lua51_value.specs.Constant.{within};
-ghost use Rattle.lua51_function.specs.Function.{heldCount, heldOf, numberIn, upvaluesIn, NextNested, placesFrom, kindAt, Filled, headOf, Loads};
+ghost use Rattle.lua51_function.specs.Function.{heldCount, heldOf, numberIn, upvaluesIn, NextNested, placesFrom, kindAt, Filled, headOf, lineIn, Loads};
 
 // What a function's refusals, listing and graph need beside its lists.
 pub struct Head {
@@ -38,12 +39,14 @@ pub struct Head {
     pub names: u32,
 }
 
-// A function's head; where its first constant stands, and how many constants it has; and how many of its words, of its
-// constants' kinds and of its nested functions the buffers hold.
+// A function's head; where its first constant stands, and how many constants it has; where its word lines stand, up to its locals;
+// and how many of its words, of its constants' kinds and of its nested functions the buffers hold.
 pub struct Loaded {
     pub head: Head,
     pub first: usize,
     pub constants: usize,
+    pub lines: usize,
+    pub locals: usize,
     pub words: usize,
     pub kinds: usize,
     pub nested: usize,
@@ -74,16 +77,6 @@ const PARAMETERS: usize = 1;
 const FLAGS: usize = 2;
 
 const STACK: usize = 3;
-
-// The smaller of two numbers.
-fn least(a: usize, b: usize) -> usize
-    ensures { λ r. ⌜ r ≡ min a b ⌝ }
-{
-    if a < b {
-        return a;
-    }
-    b
-}
 
 // How many functions the table holds.
 fn held(functions: Functions) -> usize
@@ -250,9 +243,19 @@ fn fill_nested(
     n
 }
 
-// Function f of a chunk that was walked: its head, where its constants start and how many they are; and in the buffers its words,
-// the kinds of its constants, the numbers of the functions nested in it and their counts of upvalues, each list as far as there is
-// room. Who needs no kinds lends an empty buffer for them.
+// The line of word i, by the bytes of a function's word lines; 0 past the last.
+pub fn line_at(lines: &[u8], i: usize) -> usize
+    ensures { λ r. ⌜ r ≡ lineIn (now (lines .entry)) i ⌝ }
+{
+    if lines.len() / INT_SIZE < i {
+        return 0;
+    }
+    int_at(lines, INT_SIZE * i) as usize
+}
+
+// Function f of a chunk that was walked: its head, where its constants start and how many they are, where its word lines stand; and
+// in the buffers its words, the kinds of its constants, the numbers of the functions nested in it and their counts of upvalues, each
+// list as far as there is room. Who needs no kinds lends an empty buffer for them.
 pub fn function_at(
     s: &[u8],
     functions: Functions,
@@ -264,15 +267,20 @@ pub fn function_at(
 ) -> Loaded
     ensures { λ r. ⌜ Loads (now (s .entry)) (heldOf functions) f r (now (words .entry)) (now (words .exit)) (now (kinds .entry)) (now (kinds .exit)) (now (nested .entry)) (now (nested .exit)) (now (nups .entry)) (now (nups .exit)) ⌝ }
 {
-    let start = start_of(functions, f as usize);
+    let number = f as usize;
+    let start = start_of(functions, number);
     let head = head_at(s, functions, f);
     let count_at = constants_of(s, start);
     let first = place_after(s, count_at, INT_SIZE);
     let constants = int_at(s, count_at) as usize;
+    let lines = place_after(s, tail_of(functions, number), INT_SIZE);
+    let locals = place_after(s, lines, INT_SIZE * (head.lines as usize));
     Loaded {
         head,
         first,
         constants,
+        lines,
+        locals,
         words: fill_words(s, start, words),
         kinds: fill_kinds(s, first, constants, kinds),
         nested: fill_nested(s, functions, f, nested, nups),

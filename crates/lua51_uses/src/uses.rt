@@ -3,7 +3,7 @@ ghost use mathlib.Core.Path.{_≡_};
 ghost use Prim.Native.Nat.{_<_};
 ghost use lib.ListN.{length};
 ghost use Rattle.lua51_instruction.specs.Proto.{Proto, size};
-ghost use Rattle.lua51_lifter.specs.Check.{useVerdict, firstRefusal, fine, check};
+ghost use Rattle.lua51_lifter.specs.Check.{useVerdict, firstRefusal, fine};
 ghost use Rattle.lua51_lifter.specs.Verdict.{verdictOf, Found};
 ghost use Rattle.lua51_uses.specs.Judgement.{Surveyed, checkWords};
 use crate::results::captures_missing;
@@ -59,7 +59,7 @@ fn uses_verdict(words: &[u32], nups: &[u8], leaders: &[u8], targets: &[u8]) -> V
 // jump targets and skips, are put into what is lent for them, one for each word and one behind the last. Whatever is lent, and
 // whatever 7 to 11 find, a fault is one of 12 to 14, at one of the words.
 pub fn check_uses(words: &[u32], nups: &[u8], leaders: &mut [u8], targets: &mut [u8]) -> Verdict
-    ensures { λ r. ⌜ ((p : Proto) → p .words ≡ now (words .entry) → p .nups ≡ now (nups .entry) → checkWords p ≡ fine → size p < length (now (leaders .entry)) → size p < length (now (targets .entry)) → verdictOf r ≡ check p) ⌝ }
+    ensures { λ r. ⌜ ((p : Proto) → p .words ≡ now (words .entry) → p .nups ≡ now (nups .entry) → checkWords p ≡ fine → size p < length (now (leaders .entry)) → size p < length (now (targets .entry)) → verdictOf r ≡ firstRefusal (useVerdict p) 0 (size p)) ⌝ }
     ensures anyway { λ r. ⌜ Found 12 14 (length (now (words .entry))) (verdictOf r) ⌝ }
 {
     mark_leaders(words, leaders);
