@@ -76,6 +76,7 @@ module _ (s : List ℕ) (ps : List Place) (f : ℕ) (r : Loaded) (ws ws′ ks ks
         words = whole-count (l .words) (room .words);
         nested = whole-count (l .nested) nested;
         limits = limits;
+        lines = l .lines;
         places = l .places;
         constant = read .constant;
         value = λ i h. rw (constants-are s ps f) (sym (map-at (valueAt s) (constantPlaces s ps f) i Nil h));

@@ -1,8 +1,12 @@
 -- `function::function_at`: its parts, at the place of the function. Assumes nothing.
+use mathlib.Core.Path.{_≡_, ap}
+use lib.ListN.{length}
 use borrow.Author.Needs.{needs}
 use Rattle.lua51_function.specs.Function.{heldOf}
+use Rattle.lua51_function.specs.declared.function.Head.{Head}
 use Rattle.lua51_deserializer.specs.Chunk.{protoAt}
 use Rattle.lua51_function.proofs.Buffers.{loads-words, loads-places, loads-kinds}
+use Rattle.lua51_function.proofs.WordLines.{lines-from, lines-inside, lines-part}
 use Rattle.lua51_function.proofs.function.function_at.Statement.{statement}
 use Rattle.lua51_function.proofs.function.function_at.Tie as tie
 
@@ -23,6 +27,21 @@ int-at-requires c κs = search needs
 
 cast-constants : tie.Need-cast-constants
 cast-constants c = search needs
+
+tail-of-requires : tie.Need-tail-of-requires
+tail-of-requires c κs = search needs
+
+place-after-requires-2 : tie.Need-place-after-requires-2
+place-after-requires-2 c κs = search needs
+
+cast-place-after : tie.Need-cast-place-after
+cast-place-after c = search needs
+
+mul-place-after : tie.Need-mul-place-after
+mul-place-after c = search needs
+
+place-after-requires-3 : tie.Need-place-after-requires-3
+place-after-requires-3 c κs = search needs
 
 fill-words-requires : tie.Need-fill-words-requires
 fill-words-requires c κs = search needs
@@ -51,7 +70,10 @@ returns c =
     let nested = c .before .before .before .before in
     let kinds = nested .before .before .before .before .before in
     let words = kinds .before .before .before .before in
-    let count = words .before .before in
+    let locals = words .before .before in
+    let lines = locals .before .before in
+    let tail = lines .before in
+    let count = tail .before in
     let first = count .before in
     let at = first .before in
     let head = at .before in
@@ -60,10 +82,17 @@ returns c =
     let s = a .s .now in
     let ps = heldOf (a .functions) in
     let e = start .start-of .ensures in
+    let lined : head .head-at .result .lines ≡ length (protoAt s ps (a .f) .lines) = ap (λ (h : Head). h .lines) (head .head-at .ensures) in
+    let t = tail .tail-of .ensures in
+    let l = lines .place-after2 .ensures in
+    let k = locals .place-after3 .ensures in
     let places = loads-places s ps (a .f) e (at .constants-of .ensures) (first .place-after .ensures) (count .int-at .ensures) in
     record {
       head = head .head-at .ensures;
       places = places;
+      from = lines-from s ps (a .f) t lined l k;
+      inside = lines-inside s ps (a .f) t lined l k;
+      lines = lines-part s ps (a .f) t lined l k;
       words = loads-words s ps (a .f) e _ (words .fill-words .ensures);
       kinds = loads-kinds s ps (a .f) _ _ places (kinds .fill-kinds .ensures);
       nested = nested .fill-nested .ensures .0;
@@ -80,6 +109,11 @@ function-at-spec =
     place-after-requires
     int-at-requires
     cast-constants
+    tail-of-requires
+    place-after-requires-2
+    cast-place-after
+    mul-place-after
+    place-after-requires-3
     fill-words-requires
     fill-kinds-requires
     fill-nested-requires
