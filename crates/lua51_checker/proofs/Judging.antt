@@ -1,13 +1,20 @@
--- Laws of the verdict on a word by itself, and of the numbers and places of verdicts. Assumes nothing.
+-- Laws of the verdict on a word by itself, of the order of verdicts, and of their numbers and places. Assumes nothing.
 use Prim.Native.Nat.{ℕ, zero, suc, _+_, _-_, _≤_, _<_}
 use native.Mathlib.Omega.{arith}
 use mathlib.Core.Bool.{Bool, true, false, not, _&&_}
-use mathlib.Core.Path.{_≡_, sym, _∙_}
+use mathlib.Core.List.{List}
+use mathlib.Core.Path.{_≡_, refl, sym, _∙_}
+use borrow.Author.Tests.{lt-ltb, le-ltb}
 use Rattle.lua51_instruction.specs.Word.{JMP}
 use Rattle.lua51_instruction.specs.Proto.{Proto, size, is, flowAt}
-use Rattle.lua51_lifter.specs.Check.{tests, headFault, lastFault, operandFault, landsInside, wordVerdict, Verdict, fine, wrong, refuseIf, _else_, firstRefusal}
-use Rattle.lua51_lifter.specs.Verdict.{Found}
+use Rattle.lua51_lifter.specs.Check.{tests, headFault, lastFault, operandFault, landsInside, wordVerdict, useVerdict, most-line, lineVerdict, check, Verdict, fine, wrong, refuseIf, _else_, firstRefusal}
+use Rattle.lua51_function.specs.Function.{lineIn, LinesIn}
+use Rattle.lua51_lifter.specs.Verdict.{verdictOf, Found}
+use Rattle.lua51_lifter.specs.declared.verdict.Verdict as found
+use Rattle.lua51_lifter.specs.declared.verdict.Verdict.the-variants.{Fine, Refused}
+use Rattle.lua51_lifter.specs.declared.verdict.FunctionFault.{FunctionFault}
 use Rattle.lua51_uses.specs.Judgement.{checkWords}
+use Rattle.lua51_uses.proofs.FirstRefusal.{refuses}
 
 module _ (p : Proto) (i : ℕ) {operands : Bool} (o : operands ≡ operandFault p i) where
   pub operand-outside : operands ≡ true → wrong 9 i ≡ wordVerdict p i
@@ -27,6 +34,51 @@ module _ (p : Proto) (i : ℕ) {operands : Bool} (o : operands ≡ operandFault 
       pub word-right : lone ≡ false → lone ≡ (tests (flowAt p i) && not (is p (i + 1) JMP)) → fine ≡ wordVerdict p i
       unfolding wordVerdict
       word-right m t = rw (sym o ∙ h, sym l, n, sym t ∙ m)
+
+-- ------------------------------------------------------------ the line of a word
+
+module _ (p : Proto) (ls : List ℕ) (i line : ℕ) (read : LinesIn p ls) (e : line ≡ lineIn ls i) where
+  pub line-above : most-line < line → wrong 15 i ≡ lineVerdict p i
+  unfolding lineVerdict
+  line-above h = rw (read i, ← e, lt-ltb most-line line h)
+
+  pub line-right : line ≤ most-line → fine ≡ lineVerdict p i
+  unfolding lineVerdict
+  line-right h = rw (read i, ← e, le-ltb most-line line h)
+
+-- ------------------------------------------------------------ 7 to 11, then 12 to 14, then 15
+
+else-else : (u v w x : Verdict) → u else v else w else x ≡ (u else v else w) else x
+else-else fine fine w x = refl
+else-else fine (wrong n q) w x = refl
+else-else (wrong n q) v w x = refl
+
+module _ (p : Proto) where
+  abbrev of-uses : Verdict
+  of-uses = firstRefusal (useVerdict p) 0 (size p)
+
+  abbrev of-lines : Verdict
+  of-lines = firstRefusal (lineVerdict p) 0 (size p)
+
+  check-splits : check p ≡ checkWords p else of-uses else of-lines
+  unfolding check
+  check-splits =
+      else-else (refuseIf (headFault p) 7 0) (refuseIf (lastFault p) 8 (size p - 1)) (firstRefusal (wordVerdict p) 0 (size p)) (of-uses else of-lines)
+
+  -- v is what was found by 7 to 11, u by 12 to 14, and l by 15
+  module _ (v : found.Verdict) (e : verdictOf v ≡ checkWords p) where
+    pub words-decide : (x : FunctionFault) → v ≡ Refused x → verdictOf v ≡ check p
+    words-decide x h = sym (check-splits ∙ (rw (← e) (refuses v (of-uses else of-lines) x h)))
+
+    module _ (h : v ≡ Fine) (u : found.Verdict) (f : verdictOf u ≡ of-uses) where
+      behind-words : check p ≡ verdictOf u else of-lines
+      behind-words = check-splits ∙ rw (← e, h, ← f)
+
+      pub uses-decide : (x : FunctionFault) → u ≡ Refused x → verdictOf u ≡ check p
+      uses-decide x g = sym (behind-words ∙ refuses u of-lines x g)
+
+      pub lines-decide : (l : found.Verdict) → u ≡ Fine → verdictOf l ≡ of-lines → verdictOf l ≡ check p
+      lines-decide l g k = k ∙ sym (behind-words ∙ rw g)
 
 -- ------------------------------------------------------------ numbers and places
 

@@ -18,7 +18,7 @@ use Rattle.basics.specs.Range.{table}
 use Rattle.basics.proofs.Tables.{table-at}
 use Rattle.lua51_reach.specs.Targets.{Marked}
 use Rattle.lua51_reach.proofs.Marking.{mark-says}
-use Rattle.lua51_lifter.specs.Check.{user, opener, slot, matches, missing-results, unused-results, allCaptures, landsInside, reached, lastFault, useVerdict, fine, wrong, Verdict, firstRefusal, wordVerdict, refuseIf, _else_, headFault, operandFault, check}
+use Rattle.lua51_lifter.specs.Check.{user, opener, slot, matches, missing-results, unused-results, allCaptures, landsInside, reached, lastFault, useVerdict, fine, wrong, Verdict, firstRefusal, wordVerdict, refuseIf, _else_, headFault, operandFault}
 use Rattle.lua51_lifter.proofs.Verdicts.{else-first, else-then, refused-not, first-all}
 use Rattle.lua51_uses.specs.Judgement.{checkWords, Surveyed}
 
@@ -111,17 +111,6 @@ leaders-marked p marks n below h j l = rw h (table-at (mark p) n j (omega arith)
 
 -- ------------------------------------------------------------ what 7 to 11 leave
 
-else-else : (u v w x : Verdict) → u else v else w else x ≡ (u else v else w) else x
-else-else fine fine w x = refl
-else-else fine (wrong n q) w x = refl
-else-else (wrong n q) v w x = refl
-
-pub check-splits : (p : Proto) → check p ≡ checkWords p else firstRefusal (useVerdict p) 0 (size p)
-unfolding check
-check-splits p =
-    else-else (refuseIf (headFault p) 7 0) (refuseIf (lastFault p) 8 (size p - 1)) (firstRefusal (wordVerdict p) 0 (size p))
-    (firstRefusal (useVerdict p) 0 (size p))
-
 module _ (p : Proto) (ok : checkWords p ≡ fine) where
   abbrev of-words : Verdict
   of-words = firstRefusal (wordVerdict p) 0 (size p)
@@ -139,7 +128,3 @@ module _ (p : Proto) (ok : checkWords p ≡ fine) where
       (else-first (refuseIf (not (landsInside p k (flowAt p k))) 10 k) _
       (else-then (refuseIf (operandFault p k) 9 k) _
       (first-all (wordVerdict p) (size p) (else-then (refuseIf (lastFault p) 8 (size p - 1)) of-words behind-head) k h))))
-
-  -- the uses of words decide
-  pub then-uses : firstRefusal (useVerdict p) 0 (size p) ≡ check p
-  then-uses = sym (check-splits p ∙ ap (λ (v : Verdict). v else firstRefusal (useVerdict p) 0 (size p)) ok)

@@ -1,9 +1,8 @@
 -- `uses::check_uses`: 12 to 14, once 7 to 11 are passed. Assumes nothing.
-use mathlib.Core.Path.{_∙_}
 use lib.ListN.{length}
 use borrow.Author.Needs.{needs}
 use Rattle.lua51_reach.proofs.Marking.{reached-marked}
-use Rattle.lua51_uses.proofs.Using.{ends-right, all-land, then-uses, leaders-marked}
+use Rattle.lua51_uses.proofs.Using.{ends-right, all-land, leaders-marked}
 use Rattle.lua51_uses.proofs.uses.check_uses.Statement.{statement}
 use Rattle.lua51_uses.proofs.uses.check_uses.Tie as tie
 
@@ -34,8 +33,7 @@ returns c =
             last = ends-right p ok;
             leaders = leaders-marked p _ (length (a .leaders .now)) h (l .mark-leaders .ensures p e);
             targets = reached-marked p (all-land p ok) _ _ (m .mark-reached .ensures p e) k;
-          })
-          ∙ then-uses p ok,
+          }),
       c .uses-verdict .ensures .1,
     )
 
