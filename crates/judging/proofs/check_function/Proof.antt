@@ -60,14 +60,23 @@ slice-reshare-prefix-check-4 c = search needs
 slice-aggregate-check-4 : tie.Need-slice-aggregate-check-4
 slice-aggregate-check-4 c = search needs
 
+sub-check : tie.Need-sub-check
+sub-check c = search needs
+
+part-check-start : tie.Need-part-check-start
+part-check-start c = search needs
+
+part-check-end : tie.Need-part-check-end
+part-check-end c = search needs
+
 slice-relend-prefix-check : tie.Need-slice-relend-prefix-check
-slice-relend-prefix-check c = marks-fit (c .before .before .before .before .before .before .before .before .before .before .before .before) .0
+slice-relend-prefix-check c = marks-fit (c .before .before .before .before .before .before .before .before .before .before .before .before .before) .0
 
 slice-aggregate-check-5 : tie.Need-slice-aggregate-check-5
 slice-aggregate-check-5 c = sym (length-take-le _ _ (slice-relend-prefix-check (c .before)))
 
 slice-relend-prefix-check-2 : tie.Need-slice-relend-prefix-check-2
-slice-relend-prefix-check-2 c = marks-fit (c .before .before .before .before .before .before .before .before .before .before .before .before .before) .1
+slice-relend-prefix-check-2 c = marks-fit (c .before .before .before .before .before .before .before .before .before .before .before .before .before .before) .1
 
 slice-aggregate-check-6 : tie.Need-slice-aggregate-check-6
 slice-aggregate-check-6 c = sym (length-take-le _ _ (slice-relend-prefix-check-2 (c .before)))
@@ -96,10 +105,10 @@ same-length-6 c = search needs
 returns : tie.Need-returns
 returns c =
     let k = c .before .before .before .before in
-    let d = k .before .before .before .before .before .before .before .before .before .before .before .before .before .before .before in
+    let d = k .before .before .before .before .before .before .before .before .before .before .before .before .before .before .before .before in
     let a = d .before .before .before .before .before .before .before .before .before .before .before .before in
     let h = holds-function (a .pre .0) (a .pre .1 .0) (a .pre .1 .1) (d .function-at .ensures) in
-    k .check .ensures .0 _ (stands-function (a .pre .0) (a .pre .1 .0) (a .pre .1 .1) (d .function-at .ensures))
+    k .check .ensures .0 _ (stands-function (a .pre .0) (a .pre .1 .0) (a .pre .1 .1) (d .function-at .ensures)) (h .lines)
     (omega (arith, slice-aggregate-check-5 (k .before .before)))
     (omega (arith, slice-aggregate-check-6 (k .before)))
 
@@ -117,6 +126,9 @@ check-function-spec =
     slice-aggregate-check-3
     slice-reshare-prefix-check-4
     slice-aggregate-check-4
+    sub-check
+    part-check-start
+    part-check-end
     slice-relend-prefix-check
     slice-aggregate-check-5
     slice-relend-prefix-check-2

@@ -51,6 +51,12 @@ enum-known-fault-7 c = search needs
 refused-at-requires-8 : tie.Need-refused-at-requires-8
 refused-at-requires-8 c κs = search needs
 
+enum-known-fault-8 : tie.Need-enum-known-fault-8
+enum-known-fault-8 c = search needs
+
+refused-at-requires-9 : tie.Need-refused-at-requires-9
+refused-at-requires-9 c κs = search needs
+
 returns : tie.Need-returns
 returns c = rw (c .before .enum-told .given .1) (c .refused-at .ensures)
 
@@ -75,6 +81,9 @@ returns-7 c = rw (c .before .before .fault6 .given .1) (c .refused-at7 .ensures)
 returns-8 : tie.Need-returns-8
 returns-8 c = rw (c .before .before .fault7 .given .1) (c .refused-at8 .ensures)
 
+returns-9 : tie.Need-returns-9
+returns-9 c = rw (c .before .before .fault8 .given .1) (c .refused-at9 .ensures)
+
 pub function-numbers-spec : {M : Type 1} → statement M
 function-numbers-spec =
     tie.close
@@ -95,6 +104,8 @@ function-numbers-spec =
     refused-at-requires-7
     enum-known-fault-7
     refused-at-requires-8
+    enum-known-fault-8
+    refused-at-requires-9
     returns
     returns-2
     returns-3
@@ -102,4 +113,5 @@ function-numbers-spec =
     returns-5
     returns-6
     returns-7
-    returns-8)
+    returns-8
+    returns-9)
