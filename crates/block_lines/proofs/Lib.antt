@@ -1,3 +1,4 @@
 pub mod Leads
 pub mod Fronts
+pub mod Spans
 pub mod Parts

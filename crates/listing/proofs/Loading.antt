@@ -15,7 +15,7 @@ use Rattle.lua51_deserializer.specs.Chunk.{here, walked, Walk, walk, protoAt, m
 use Rattle.lua51_deserializer.specs.Walked.{placesOf}
 use Rattle.lua51_deserializer.specs.declared.chunk.Functions.{Functions}
 use Rattle.lua51_deserializer.specs.declared.fields.Cursor.the-variants.{Here}
-use Rattle.lua51_function.specs.Function.{Stands, heldOf, Loads, few-words, Roomy, Holds}
+use Rattle.lua51_function.specs.Function.{Stands, heldOf, Loads, few-words, Roomy, Holds, part}
 use Rattle.lua51_function.specs.declared.function.Head.{Head}
 use Rattle.lua51_function.specs.declared.function.Loaded.{Loaded}
 use Rattle.lua51_function.proofs.WholeFunction.{held-all, holds-each}
@@ -23,7 +23,7 @@ use Rattle.lua51_function.proofs.WholeChunk.{whole-chunk}
 use Rattle.lua51_deserializer.proofs.Places.{places-length}
 use Rattle.lua51_lifter.specs.Blocks.{graph}
 use Rattle.lua51_lifter.specs.Check.{check, fine}
-use Rattle.lua51_lifter.specs.Listing.{itemLine, functionItem, constantItems, allBlockItems, functionItems, namedNumbers, items, constantLines, blockLines}
+use Rattle.lua51_lifter.specs.Listing.{itemLine, functionItem, constantItems, allBlockItems, functionItems, namedNumbers, sourceLines, items, constantLines, blockLines}
 use Rattle.lua51_lifter.specs.Listing.{listing}
 use Rattle.lua51_statements.proofs.Pieces.{pieces-append}
 use Rattle.lua51_constants.specs.Constants.{functionLine}
@@ -59,21 +59,21 @@ module _ (s : List ℕ) (functions : Functions) (f end : ℕ) (e : walked (here 
 -- where nothing in it is refused, it is held
 pub held : {s : List ℕ} {f : ℕ} {r : Loaded} {ws ks fs us : List ℕ} → Holds s (walk s .places) f r ws ks fs us
     → check (protoAt s (walk s .places) f) ≡ fine
-    → Held (protoAt s (walk s .places) f) (r .head) (take (r .words) ws) (take (r .nested) fs) (take (r .nested) us)
-held {s} {f} h ok = record { fine = ok; few = h .limits .words; kinds = protoAt s (walk s .places) f .kinds; stands = h .stands }
+    → Held (protoAt s (walk s .places) f) (r .head) (take (r .words) ws) (take (r .nested) fs) (take (r .nested) us) (part s (r .lines) (r .locals))
+held {s} {f} h ok = record { fine = ok; few = h .limits .words; kinds = protoAt s (walk s .places) f .kinds; stands = h .stands; lines = h .lines }
 
 -- ------------------------------------------------------------ its listing
 
 -- printed: its F line (o₁), its constants (o₂), its blocks (o₃)
 pub listed : {p : Proto} {h : Head} {ws ks ns us : List ℕ} → Stands p h ws ks ns us → (vs : List Value) (o : Out) {o₁ o₂ o₃ : Out}
-    → o₁ ≡ puts o (functionLine h) → o₂ ≡ puts o₁ (constantLines 0 vs) → o₃ ≡ puts o₂ (blockLines 0 (graph p))
+    → o₁ ≡ puts o (functionLine h) → o₂ ≡ puts o₁ (constantLines 0 vs) → o₃ ≡ puts o₂ (blockLines p 0 (graph p))
     → o₃ ≡ puts o (listing p vs)
 unfolding listing items functionItems flatMap
 listed {p} st vs o head constants blocks =
     rw (
-      puts-append o (itemLine (functionItem p)) (flatMap itemLine (constantItems 0 vs ++ allBlockItems namedNumbers 0 (graph p))),
-      pieces-append itemLine (constantItems 0 vs) (allBlockItems namedNumbers 0 (graph p)),
-      puts-append (puts o (itemLine (functionItem p))) (constantLines 0 vs) (blockLines 0 (graph p)),
+      puts-append o (itemLine (functionItem p)) (flatMap itemLine (constantItems 0 vs ++ allBlockItems namedNumbers (sourceLines p) 0 (graph p))),
+      pieces-append itemLine (constantItems 0 vs) (allBlockItems namedNumbers (sourceLines p) 0 (graph p)),
+      puts-append (puts o (itemLine (functionItem p))) (constantLines 0 vs) (blockLines p 0 (graph p)),
       function-line st,
       ← head,
       ← constants,

@@ -1,7 +1,7 @@
 -- `put_code_block`: its B line, its front, its words, its edges. Assumes nothing.
 use Prim.Native.Nat.{ℕ, _-_, _≤_}
 use native.Mathlib.Omega.{arith}
-use mathlib.Core.Path.{_≡_, sym}
+use mathlib.Core.Path.{_≡_, sym, ap, _∙_}
 use lib.ListN.{length}
 use Rattle.lines.specs.Out.{output}
 use Rattle.lines.proofs.Puts.{prints-then}
@@ -10,10 +10,12 @@ use Rattle.cfg.specs.Graph.{past}
 use Rattle.cfg_notes.proofs.Parts.{block-is}
 use Rattle.lua51_lifter.proofs.Accepted.{stack-few}
 use Rattle.lua51_lifter.proofs.Captures.{leader-free}
+use Rattle.lua51_lifter.specs.SourceLines.{lowest, highest}
 use Rattle.lua51_lister.proofs.Runs.{body-whole}
 use Rattle.block_lines.specs.Lines.{run-numbers}
 use Rattle.lua51_lifter.proofs.Accepted.{end-leader}
 use Rattle.lua51_lifter.proofs.Ranges.{range-within}
+use Rattle.block_lines.proofs.Spans.{lines-read}
 use Rattle.block_lines.proofs.Parts.{checked, front-whole, code-printed}
 use borrow.Author.Needs.{needs}
 use Rattle.block_lines.proofs.blocks.put_code_block.Statement.{statement}
@@ -21,6 +23,9 @@ use Rattle.block_lines.proofs.blocks.put_code_block.Tie as tie
 
 range-end-requires : tie.Need-range-end-requires
 range-end-requires c κs = search needs
+
+span-of-requires : tie.Need-span-of-requires
+span-of-requires c κs = search needs
 
 block-at-requires : tie.Need-block-at-requires
 block-at-requires c κs = search needs
@@ -50,9 +55,10 @@ returns c =
     let front = body .before .before .before .before .before .before .before in
     let first = front .before .before .before .before .before in
     let number = first .before in
-    let range = number .before .before in
-    let nups = range .before .before .shared-slice-known3 in
-    let a = range .before .before .before .before .before .before .before .args in (
+    let span = number .before .before in
+    let range = span .before in
+    let nups = range .before .before .before .shared-slice-known3 in
+    let a = range .before .before .before .before .before .before .before .before .args in (
       λ p held roomy notes le leads.
           let ok = checked held notes in
           let end : range .range-end .result ≡ past p (a .j) = range .range-end .ensures .0 p (ok .notes) le in
@@ -62,10 +68,14 @@ returns c =
           let room′ = length (front .put-front .last .1 .1 .0) in
           let same : room′ ≡ room = front .put-front .kept .1 .1 .0 in
           let roomy′ : run-numbers ≤ room′ = omega (arith, same, roomy) in
-          code-printed p (a .j) (number .block-at .result) (range .range-end .result) room room′
+          let lines = lines-read p (a .lines .now) (held .lines) (a .j) (range .range-end .result) in
+          code-printed p (a .j) (number .block-at .result) (range .range-end .result) (span .span-of .result .lowest) (span .span-of .result .highest) room room′
           (output (a .out .now) (a .at)) _ _ _ _
           (block-is p (a .notes .now) (ok .notes) (a .j) (number .block-at .result) (number .block-at .ensures) le leads)
-          end (first .put-block-line .ensures)
+          end
+          (span .span-of .ensures .0 ∙ ap lowest lines)
+          (span .span-of .ensures .1 ∙ ap highest lines)
+          (first .put-block-line .ensures)
           (front .put-front .ensures .0 p ok le)
           (body .put-body .ensures .0 p (held .kinds) (held .stands) (sym (leader-free p (ok .fine) (a .j) le leads)) .0)
           (exits .put-exits .ensures .0 p ok le end)
@@ -81,6 +91,7 @@ put-code-block-spec =
     tie.close
     (tie.spec
     range-end-requires
+    span-of-requires
     block-at-requires
     put-block-line-requires
     put-front-requires
