@@ -40,7 +40,7 @@ returns c =
     let entry = betweens .before .before .before .before .before in
     let number = entry .before in
     let codes = number .before .before .before .before .before .before in
-    let a = codes .before .before .before .before .before .before .before .before .before .args in (
+    let a = codes .before .before .before .before .before .before .before .before .before .before .args in (
       λ p held roomy notes.
           let ok = checked held notes in
           let n : length (a .words .now) ≡ size p = sym (ap length (ok .words)) in

@@ -16,14 +16,14 @@ use Rattle.listing.proofs.blocks.put_code_blocks.Statement.{statement}
 use Rattle.listing.proofs.blocks.put_code_blocks.Tie as tie
 
 abbrev Inv-loop : tie.InvT-loop
-Inv-loop out₀ at run₀ head words nested nups notes next₀ j₀ out run next j =
+Inv-loop out₀ at run₀ head words nested nups lines notes next₀ j₀ out run next j =
     (length out ≡ length out₀) × (length run ≡ length run₀) × (j ≤ length words + 1)
-    × ((p : Proto) → Held p head words nested nups → run-numbers ≤ length run₀ → notes ≡ notesOf p
+    × ((p : Proto) → Held p head words nested nups lines → run-numbers ≤ length run₀ → notes ≡ notesOf p
     → puts (output out₀ at) (over (codeLines p) 0 (size p + 1)) ≡ puts (output out next) (over (codeLines p) j (size p + 1 - j)))
     × Prints (output out₀ at) (output out next)
 
 abbrev μ-loop : tie.MeasureT-loop
-μ-loop out₀ at run₀ head words nested nups notes next₀ j₀ out run next j = length words + 1 - j
+μ-loop out₀ at run₀ head words nested nups lines notes next₀ j₀ out run next j = length words + 1 - j
 
 loop-holds : tie.Need-loop-holds Inv-loop μ-loop
 loop-holds c = (search needs, search needs, search needs, λ p held roomy noted. let all : size p + 1 - 0 ≡ size p + 1 = omega arith in rw all, prints-none _)

@@ -14,7 +14,7 @@ returns : tie.Need-returns
 unfolding codeLines
 returns c =
     let s = c .before in
-    let a = s .before .before .before .before .before .before .before .args in (
+    let a = s .before .before .before .before .before .before .before .before .args in (
       λ p held roomy notes le. rw (starts-none p (a .notes .now) notes (a .j) (s .start-at .result) (s .start-at .ensures) le (c .if1 .taken)) (sym (puts-none _)),
       prints-none _,
     )
@@ -34,7 +34,7 @@ returns-2 c =
     let put = c .before .before .before .before in
     let t = put .before .before .before in
     let s = t .before in
-    let a = s .before .before .before .before .before .before .before .args in (
+    let a = s .before .before .before .before .before .before .before .before .args in (
       λ p held roomy notes le.
           let leads = starts-block p (a .notes .now) notes (a .j) (s .start-at .result) (s .start-at .ensures) le (t .if1 .left) in
           rw leads (put .put-code-block .ensures .0 p held roomy notes le leads),

@@ -50,6 +50,15 @@ slice-reshare-prefix-put-listing-3 c = search needs
 slice-aggregate-put-listing-3 : tie.Need-slice-aggregate-put-listing-3
 slice-aggregate-put-listing-3 c = search needs
 
+sub-put-listing : tie.Need-sub-put-listing
+sub-put-listing c = search needs
+
+part-put-listing-start : tie.Need-part-put-listing-start
+part-put-listing-start c = search needs
+
+part-put-listing-end : tie.Need-part-put-listing-end
+part-put-listing-end c = search needs
+
 slice-relend-prefix-put-listing : tie.Need-slice-relend-prefix-put-listing
 slice-relend-prefix-put-listing c = search needs
 
@@ -80,7 +89,7 @@ same-length-6 c = search needs
 returns : tie.Need-returns
 returns c =
     let put = c .before .before .before .before .before .before in
-    let d = put .before .before .before .before .before .before .before .before .before .before .before .before .before .before in
+    let d = put .before .before .before .before .before .before .before .before .before .before .before .before .before .before .before in
     let a = d .before .before .before .before .before .before .before .before .before .before .before .before .args in (
       λ end walked below ok runs room.
           let h = holds-function (a .functions) end walked below (d .function-at .ensures) room in
@@ -102,6 +111,9 @@ put-in-spec =
     slice-aggregate-put-listing-2
     slice-reshare-prefix-put-listing-3
     slice-aggregate-put-listing-3
+    sub-put-listing
+    part-put-listing-start
+    part-put-listing-end
     slice-relend-prefix-put-listing
     slice-aggregate-put-listing-4
     put-listing-requires

@@ -26,7 +26,7 @@ returns c =
     let blocks = c .before .before .before .before in
     let constants = blocks .before .before .before .before .before in
     let first = constants .before .before .before .before in
-    let a = first .before .before .before .before .before .before .before .before .before .before .args in (
+    let a = first .before .before .before .before .before .before .before .before .before .before .before .args in (
       λ p vs held roomy notes read.
           listed (held .stands) vs (output (a .out .now) (a .at))
           (first .put-function-line .ensures)

@@ -37,7 +37,7 @@ returns-2 c =
     let w = c .before .before .before .before in
     let e = w .before .before .before in
     let k = e .before .before .before .before in
-    let start = k .before .before .before .before .before .before .before .before .before .before in
+    let start = k .before .before .before .before .before .before .before .before .before .before .before in
     let few : length (start .args .out .now) < largest-usize = omega (arith, start .good .0 .1) in (
       λ p vs held roomy notes read.
           whole-fits _ _ _ _ (k .put-loaded .ensures .0 p vs held roomy notes read) _ _ (e .if1 .left) few
