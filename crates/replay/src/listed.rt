@@ -9,16 +9,20 @@ use judging::Answer;
 use judging::refusal::Refusal;
 use judging::refusal::numbers_of;
 use judging::refusal::put_refusal;
+use lines::LETTER_B;
 use lines::LETTER_S;
 use reading::PROGRAM_BUFFER;
 use reading::deliver::deliver;
 use reading::open;
 
 // The longest output of a record.
-const MOST_OUTPUT: usize = 210000;
+const MOST_OUTPUT: usize = 230000;
 
-// Behind the letter of an S line stand the word that the statement names and its opcode, in 7 columns each.
-const WORD_COLUMNS: usize = 14;
+// The two numbers that the original does not tell, in 7 columns each: behind the letter of an S line the word that the statement names
+// and its opcode, behind the first four numbers of a B line its lowest and its highest source line.
+const UNTOLD_COLUMNS: usize = 14;
+
+const BLOCK_COLUMNS: usize = 28;
 
 // More than the longest X line.
 const LINE: usize = 64;
@@ -55,11 +59,12 @@ fn ends_with(refusal: Refusal, recorded: &[u8], at: usize) -> bool {
     matched(&line, count, recorded, at) == recorded.len()
 }
 
-// Takes the two leading numbers of S lines out of the first `count` bytes of a listing, and gives how many bytes are left. In a line no
+// Takes what the original does not tell out of the first `count` bytes of a listing, and gives how many bytes are left. In a line no
 // letter stands but the first.
-fn take_words_out(listing: &mut [u8], count: usize) -> usize {
+fn take_untold_out(listing: &mut [u8], count: usize) -> usize {
     let mut kept = 0;
     let mut i = 0;
+    let mut untold = listing.len();
     while i < listing.len() {
         if count <= i {
             return kept;
@@ -69,23 +74,29 @@ fn take_words_out(listing: &mut [u8], count: usize) -> usize {
         kept += 1;
         i += 1;
         if byte == LETTER_S {
-            i += WORD_COLUMNS;
+            untold = i;
+        }
+        if byte == LETTER_B {
+            untold = i + BLOCK_COLUMNS;
+        }
+        if i == untold {
+            i += UNTOLD_COLUMNS;
         }
     }
     kept
 }
 
-// How many bytes of a listing are compared: all of them, or those that are left without the words that statements name.
-fn compared(listing: &mut [u8], count: usize, with_words: bool) -> usize {
-    if with_words {
+// How many bytes of a listing are compared: all of them, or those that are left without what the original does not tell.
+fn compared(listing: &mut [u8], count: usize, whole: bool) -> usize {
+    if whole {
         return count;
     }
-    take_words_out(listing, count)
+    take_untold_out(listing, count)
 }
 
-// Whether opening a chunk and delivering its functions one after the other gives the recorded output, with or without the words that
-// statements name.
-pub fn same_output(s: &[u8], recorded: &[u8], with_words: bool) -> bool {
+// Whether opening a chunk and delivering its functions one after the other gives the recorded output, whole or without what the
+// original does not tell.
+pub fn same_output(s: &[u8], recorded: &[u8], whole: bool) -> bool {
     let opened = open(s);
     let answer = opened.answer;
     if let Answer::Refused(refusal) = answer {
@@ -102,7 +113,7 @@ pub fn same_output(s: &[u8], recorded: &[u8], with_words: bool) -> bool {
         match delivery {
             Answer::Refused(refusal) => return ends_with(refusal, recorded, at),
             Answer::Given(count) => {
-                let kept = compared(&mut out, count, with_words);
+                let kept = compared(&mut out, count, whole);
                 at = matched(&out, kept, recorded, at);
             }
         }

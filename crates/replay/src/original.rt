@@ -16,8 +16,9 @@ const AGREED: usize = 0;
 // The classes of docs/DIFFERENCES.md.
 const MOST_CLASS: usize = 6;
 
-// Whether a chunk gives what its record says, without the words that statements name, which the original does not tell. Where the two
-// agree the original's answer is the output, and no listing is recorded; else the recorded listing is, and the answer differs from it.
+// Whether a chunk gives what its record says, without the words that statements name and the source lines of blocks, which the original
+// does not tell. Where the two agree the original's answer is the output, and no listing is recorded; else the recorded listing is, and
+// the answer differs from it.
 fn as_recorded(s: &[u8], class: usize, answer: &[u8], listing: &[u8]) -> bool {
     if MOST_CLASS < class {
         return false;

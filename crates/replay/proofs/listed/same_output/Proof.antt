@@ -6,10 +6,10 @@ use Rattle.replay.proofs.listed.same_output.Statement.{statement}
 use Rattle.replay.proofs.listed.same_output.Tie as tie
 
 abbrev Inv-loop : tie.InvT-loop
-Inv-loop s recorded with_words out₀ reading₀ at₀ left₀ out reading at left = (length out ≡ 65536)
+Inv-loop s recorded whole out₀ reading₀ at₀ left₀ out reading at left = (length out ≡ 65536)
 
 abbrev μ-loop : tie.MeasureT-loop
-μ-loop s recorded with_words out₀ reading₀ at₀ left₀ out reading at left = left
+μ-loop s recorded whole out₀ reading₀ at₀ left₀ out reading at left = left
 
 open-requires : tie.Need-open-requires Inv-loop μ-loop
 open-requires c κs = search needs

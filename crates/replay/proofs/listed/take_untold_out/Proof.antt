@@ -1,16 +1,16 @@
--- `listed::take_words_out` is safe and ends: it keeps no more than it has read. Assumes nothing.
+-- `listed::take_untold_out` is safe and ends: it keeps no more than it has read. Assumes nothing.
 use Prim.Native.Nat.{_-_, _≤_}
 use mathlib.Core.Path.{_≡_}
 use lib.ListN.{length}
 use borrow.Author.Needs.{needs}
-use Rattle.replay.proofs.listed.take_words_out.Statement.{statement}
-use Rattle.replay.proofs.listed.take_words_out.Tie as tie
+use Rattle.replay.proofs.listed.take_untold_out.Statement.{statement}
+use Rattle.replay.proofs.listed.take_untold_out.Tie as tie
 
 abbrev Inv-loop : tie.InvT-loop
-Inv-loop listing₀ count kept₀ i₀ listing kept i = (kept ≤ i) × (length listing ≡ length listing₀)
+Inv-loop listing₀ count kept₀ i₀ untold₀ listing kept i untold = (kept ≤ i) × (length listing ≡ length listing₀)
 
 abbrev μ-loop : tie.MeasureT-loop
-μ-loop listing₀ count kept₀ i₀ listing kept i = length listing₀ - i
+μ-loop listing₀ count kept₀ i₀ untold₀ listing kept i untold = length listing₀ - i
 
 loop-holds : tie.Need-loop-holds Inv-loop μ-loop
 loop-holds c = search needs
@@ -33,6 +33,9 @@ add-kept c = search needs
 add-i : tie.Need-add-i Inv-loop μ-loop
 add-i c = search needs
 
+add-untold : tie.Need-add-untold Inv-loop μ-loop
+add-untold c = search needs
+
 add-i-2 : tie.Need-add-i-2 Inv-loop μ-loop
 add-i-2 c = search needs
 
@@ -54,8 +57,8 @@ same-length-2 c = search needs
 returns-2 : tie.Need-returns-2 Inv-loop μ-loop
 returns-2 c = search needs
 
-pub take-words-out-spec : {M : Type 1} → statement M
-take-words-out-spec =
+pub take-untold-out-spec : {M : Type 1} → statement M
+take-untold-out-spec =
     tie.close
     (tie.spec
     Inv-loop
@@ -67,6 +70,7 @@ take-words-out-spec =
     slice-write-listing
     add-kept
     add-i
+    add-untold
     add-i-2
     loop-less
     loop-again
