@@ -11,6 +11,7 @@ WITH_BX = ('LOADK', 'GETGLOBAL', 'SETGLOBAL', 'CLOSURE')
 WITH_SBX = ('JMP', 'FORLOOP', 'FORPREP')
 TESTS = ('EQ', 'LT', 'LE', 'TEST', 'TESTSET', 'TFORLOOP')
 HEADER = bytes.fromhex('1b4c75615100010404040800')
+MOST_LINE = 999999
 
 
 # ---- words
@@ -70,13 +71,16 @@ def constant(value):
     return b'\4' + struct.pack('<I', len(value) + 1) + value + b'\0'
 
 
-def function(words, stack=2, parameters=0, upvalues=0, flags=0, constants=(), nested=()):
-    """The bytes of a function without names and lines; words as numbers or as tuples for `word`."""
+def ints(values):
+    return struct.pack('<%dI' % (len(values) + 1), len(values), *values)
+
+
+def function(words, stack=2, parameters=0, upvalues=0, flags=0, constants=(), nested=(), lines=()):
+    """The bytes of a function without names; words as numbers or as tuples for `word`."""
     words = [w if isinstance(w, int) else word(*w) for w in words]
-    return (struct.pack('<III', 0, 0, 0) + bytes([upvalues, parameters, flags, stack])
-            + struct.pack('<I', len(words)) + struct.pack('<%dI' % len(words), *words)
+    return (struct.pack('<III', 0, 0, 0) + bytes([upvalues, parameters, flags, stack]) + ints(words)
             + struct.pack('<I', len(constants)) + b''.join(map(constant, constants))
-            + struct.pack('<I', len(nested)) + b''.join(nested) + struct.pack('<III', 0, 0, 0))
+            + struct.pack('<I', len(nested)) + b''.join(nested) + ints(lines) + struct.pack('<II', 0, 0))
 
 
 def chunk(*args, **named):
@@ -86,10 +90,10 @@ def chunk(*args, **named):
 # ---- reading
 
 class Function:
-    """What a comparison has to know of a function: its words, where they stand, and its nested functions."""
+    """What a comparison has to know of a function: its words, where they stand, their lines, and its nested functions."""
 
     def __init__(self, number, at, words):
-        self.number, self.at, self.words, self.nested = number, at, words, []
+        self.number, self.at, self.words, self.lines, self.nested = number, at, words, (), []
 
 
 def functions(data):
@@ -118,7 +122,9 @@ def functions(data):
         for _ in range(count):
             child, at = read(at)
             f.nested.append(child)
-        at += 4 + 4 * int_at(at)
+        count = int_at(at)
+        f.lines = struct.unpack_from('<%dI' % count, data, at + 4)
+        at += 4 + 4 * count
         return f, strings(strings(at, 8), 0)
 
     read(len(HEADER))
@@ -138,6 +144,16 @@ def random_constant(r):
     if kind < .64:
         return Bits(r.choice([0x7ff8000000000000, 0xfff8000000000000, 0x7ff0000000000001, 0x7ff8000000000001]))
     return bytes(r.choice(b'ab\0\xff"\\') for _ in range(r.choice([0, 1, 1, 2, 3])))
+
+
+def random_lines(words):
+    """Lines for three of four functions. They are drawn by the words alone, so that a seed gives the same words with and without."""
+    r = random.Random(str(words))
+    if r.random() < .25:
+        return []
+    few = r.random() < .5
+    return [r.randrange(1, 9) if few else r.choice([0, 1, MOST_LINE - 1, MOST_LINE, r.randrange(100), r.randrange(MOST_LINE)])
+            for _ in words]
 
 
 class Random:
@@ -165,6 +181,7 @@ class Random:
             self.constants.append(r.choice(self.constants))
         self.strings = [i for i, c in enumerate(self.constants) if isinstance(c, bytes)]
         self.words = self.laid_out(self.pieces(r.randint(1, most_words)))
+        self.lines = random_lines(self.words)
 
     # operands
 
@@ -311,7 +328,7 @@ class Random:
 
     def bytes(self):
         return function(self.words, self.stack, self.parameters, self.upvalues, self.flags, self.constants,
-                        [f.bytes() for f in self.nested])
+                        [f.bytes() for f in self.nested], self.lines)
 
 
 def random_chunk(seed, small=False):
@@ -351,6 +368,48 @@ def at_the_edges(stacks=(250, 5, 1)):
                     behind = [word('RETURN', 0, 1)]
                 yield chunk(before + words + behind + [word('RETURN', 0, 1)], stack=S, flags=2, upvalues=255, constants=constants,
                             nested=nested if name == 'CLOSURE' else [])
+
+
+def lines_at_the_edges():
+    """Chunks with word lines at the highest that stands and above it, beside other refusals too; and the numbers of the refusal of
+    each, or None."""
+    R, most = ('RETURN', 0, 1), MOST_LINE
+    open_call, testset = ('CALL', 0, 1, 0), [('TESTSET', 0, 1, 0), ('JMP', 0, -1)]
+    child = function([R], upvalues=1)
+    yield chunk([R], lines=[most]), None
+    yield chunk([R], lines=[0]), None
+    for line in (most + 1, most + 2, 1 << 20, 1 << 24, (1 << 31) - 1, 1 << 31, (1 << 32) - 1):
+        yield chunk([R], lines=[line]), [15, 0, 0]
+        yield chunk([('MOVE', 0, 1)] * 3 + [R], lines=[most, 1, line, most]), [15, 0, 2]
+    yield chunk([('MOVE', 0, 1)] * 3 + [R], lines=[1, most + 1, 1, most + 1]), [15, 0, 1]
+    yield chunk([R, ('MOVE', 0, 1), R], lines=[1, most + 1, 1]), [15, 0, 1]                         # a word that nothing leads to
+    yield chunk([('CLOSURE', 0, 0), ('MOVE', 0, 0), R], lines=[1, most + 1, 1], nested=[child]), [15, 0, 1]     # a capture
+    yield chunk([('CLOSURE', 0, 0), ('MOVE', 0, 0), R], lines=[5, most, 5], nested=[child]), None
+    # of one function: 7 to 14 before 15, whatever the words
+    high = [most + 1, 1, 1]
+    yield chunk([R], lines=high), [7, 0, 0]
+    yield chunk([R, R, ('MOVE', 0, 1)], lines=high), [8, 0, 2]
+    yield chunk([R, ('MOVE', 2, 0), R], lines=high), [9, 0, 1]
+    yield chunk([R, ('JMP', 0, 1), R], lines=high), [10, 0, 1]
+    yield chunk([R, ('EQ', 0, 0, 0), R, R], lines=high + [1]), [11, 0, 1]
+    yield chunk([R, open_call, R], lines=high), [12, 0, 1]
+    yield chunk([R, ('CLOSURE', 0, 0), R], lines=high, nested=[child]), [13, 0, 1]
+    yield chunk([R] + testset + [R], lines=high + [1]), [14, 0, 1]
+    # of two functions: the first wholly before the second
+    for words, rest, refusal in (([R], dict(stack=251), [7, 0]), ([], {}, [8, 0]), ([('MOVE', 0, 1)], {}, [8, 0]),
+                                 ([('MOVE', 2, 0), R], {}, [9, 0]), ([('JMP', 0, 1), R], {}, [10, 0]),
+                                 ([('EQ', 0, 0, 0), R, R], {}, [11, 0]), ([open_call, R], {}, [12, 0]),
+                                 ([('CLOSURE', 0, 0), R], dict(nested=[child]), [13, 0]), (testset + [R], {}, [14, 0])):
+        yield chunk([R], lines=[most + 1], nested=[function(words, **rest)]), [15, 0, 0]
+        inner = function([R], lines=[most + 1])
+        nested = rest.pop('nested', []) + [inner]
+        yield chunk(words, nested=nested, **rest), [refusal[0], 0, refusal[1]]
+    # lines in one of two functions, in both, and in the second of three
+    for first, second, refusal in (([1], [], None), ([], [most], None), ([], [most + 1], [15, 1, 0]), ([most + 1], [1], [15, 0, 0]),
+                                   ([1], [most + 1], [15, 1, 0]), ([most + 1], [most + 1], [15, 0, 0])):
+        yield chunk([R], lines=first, nested=[function([R], lines=second)]), refusal
+    yield chunk([R], nested=[function([R], lines=[most + 1]), function([R], lines=[most + 1])]), [15, 1, 0]
+    yield chunk([R], lines=[most + 1]) + b'\0', [6, 0, len(chunk([R], lines=[1]))]
 
 
 def short_runs(length):

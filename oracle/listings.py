@@ -13,7 +13,9 @@ LIST_INDEX, LIST_256, BOTH_EDGES, CONSTANTS, NESTED, ORDER = 1, 2, 3, 4, 5, 6
 
 COLUMN = 7
 NAMED = 2                                       # numbers of an S line before its statement: the word that it names, its opcode
-ENTRY, ENTRY_OPCODE = 1, 99                     # the entry's kind, and what its statements have for an opcode
+HEAD = 4                                        # numbers of a B line before its lowest and its highest source line
+CODE, ENTRY, BETWEEN = 0, 1, 2                  # the kinds of blocks
+ENTRY_OPCODE = 99                               # what the entry's statements have for an opcode
 ON_THEN = ('TESTSET', 'FORLOOP', 'TFORLOOP')    # words with an assignment that stands in another block
 
 INDEX_PER_C = 50
@@ -58,25 +60,32 @@ def numbers_of(line):
     return numbers
 
 
-def without_words(line):
-    """A line as the original's answers have it: an S line without the word that it names and that word's opcode."""
-    return 'S' + line[1 + NAMED * COLUMN:] if line[:1] == 'S' else line
+def as_told(line):
+    """A line as the original's answers have it: an S line without the word that it names and that word's opcode, a B line without
+    its two source lines."""
+    if line[:1] == 'S':
+        return 'S' + line[1 + NAMED * COLUMN:]
+    return line[:1 + HEAD * COLUMN] if line[:1] == 'B' else line
 
 
 class Listing:
-    """The printed listing of one function: its F and K lines, and its B, S and E lines, as text; of the S lines the words that they
-    name, with their opcodes, stand apart."""
+    """The printed listing of one function: its F and K lines, and its B, S and E lines, as text; apart from them, of the S lines the
+    words that they name, with their opcodes, and of the B lines the two source lines."""
 
     def __init__(self, first):
-        self.head, self.body, self.named = [first], [], []
+        self.head, self.body, self.named, self.spans = [first], [], [], []
 
     def add(self, line):
+        numbers = numbers_of(line)
         if line[0] == 'S':
-            numbers = numbers_of(line)
             if len(numbers) <= NAMED:
                 raise Other('columns: %r' % line)
             self.named.append(tuple(numbers[:NAMED]))
-        self.body.append(without_words(line))
+        if line[0] == 'B':
+            if len(numbers) != HEAD + 2:
+                raise Other('columns: %r' % line)
+            self.spans.append(tuple(numbers[HEAD:]))
+        self.body.append(as_told(line))
 
 
 def listings_of(text):
@@ -286,6 +295,7 @@ class Compared:
             raise Other('F and K lines: %s, original %s' % first_difference(listing.head, answer.head))
         self.values, self.lowest = values_of(listing.head)
         self.compare_named()
+        self.compare_spans()
         self.compare_lifts()
         replaced = {}
         if answer.by_value is None:
@@ -305,6 +315,15 @@ class Compared:
             here = [next(named) for _ in block.statements]
             if not well_named(self.function.words, block.head, here):
                 raise Other('block %d: its statements name %s' % (block.head[0], here))
+
+    def compare_spans(self):
+        """The lowest and the highest source line of blocks, of which the original tells nothing."""
+        lines = self.function.lines
+        if any(line > chunks.MOST_LINE for line in lines):
+            raise Other('listed, with a word line above %d' % chunks.MOST_LINE)
+        for block, span in zip(blocks_of(self.listing.body), self.listing.spans):
+            if span != span_of(lines, block.head):
+                raise Other('block %d: lines %s, not %s' % (block.head[0], span, span_of(lines, block.head)))
 
     def compare_lifts(self):
         """How many functions were lifted, and which did not come back."""
@@ -390,10 +409,10 @@ class Compared:
         """Edges may differ in the Else edge of a FORLOOP to the next word, which the original leads through the between block."""
         number, first, end, kind = m.head
         different = Other('block %d: E %s, original %s' % (number, m.edges, t.edges))
-        if kind != 0 or first == end or len(m.edges) != 2 or m.edges[0][0] != 1 or m.edges[0][1] >= len(mine):
+        if kind != CODE or first == end or len(m.edges) != 2 or m.edges[0][0] != 1 or m.edges[0][1] >= len(mine):
             raise different
         last, between = self.function.words[end - 1], m.edges[0][1]
-        if chunks.name_of(last) != 'FORLOOP' or chunks.sbx_of(last) != 0 or mine[between].head[3] != 2:
+        if chunks.name_of(last) != 'FORLOOP' or chunks.sbx_of(last) != 0 or mine[between].head[3] != BETWEEN:
             raise different
         if m.edges[1] != [2, number + 1] or mine[between].edges != [[0, number + 1]] or t.edges != [[1, between], [2, between]]:
             raise different
@@ -413,6 +432,13 @@ def well_named(words, head, named):
     if own and chunks.name_of(words[own[0]]) in ON_THEN:
         own = own[1:]
     return own == sorted(own) and all(first <= w < end for w in own)
+
+
+def span_of(lines, head):
+    """The lowest and the highest source line of a block's words, by the lines that the chunk has for its function's words."""
+    _, first, end, kind = head
+    own = lines[first:end] if kind == CODE else ()
+    return (min(own), max(own)) if own else (0, 0)
 
 
 def first_difference(mine, theirs):
