@@ -13,6 +13,7 @@ WIDTH bytes (4 or 8, default 8), for a luac that expects those.
     many-256    256 functions, main included
     deep-32     functions nested 32 deep
     full        one function whose listing has 65,536 bytes
+    NAME-lines  the same as NAME, with a source line for each word; the others have none
 """
 import os
 import struct
@@ -38,7 +39,7 @@ def jump(op, a, distance):
 class Function:
     def __init__(self, words, stack, constants=(), children=(), upvalues=0):
         self.words, self.stack, self.constants = list(words), stack, list(constants)
-        self.children, self.upvalues = list(children), upvalues
+        self.children, self.upvalues, self.lines = list(children), upvalues, []
 
 
 def string(text, width):
@@ -60,7 +61,8 @@ def function(f, width):
          count(len(f.words))] + [count(w) for w in f.words] +
         [count(len(f.constants))] + [constant(k, width) for k in f.constants] +
         [count(len(f.children))] + [function(c, width) for c in f.children] +
-        [count(0), count(0), count(0)])
+        [count(len(f.lines))] + [count(line) for line in f.lines] +
+        [count(0), count(0)])
 
 
 def chunk(main, width):
@@ -121,13 +123,21 @@ def deep(depth):
 
 
 def full(total=65536):
-    """Straight code, and constants that fill the listing up. In bytes: F, B and the last B 30, the entry 30 and 58 for each
+    """Straight code, and constants that fill the listing up. In bytes: F 30, B and the last B 44, the entry 44 and 58 for each
     register and 16 for its edge, the return 30, a MOVE 65, a nil 16, a string 23 and 7 for each of its bytes"""
     moves = 800
-    left = total - (30 + 30 + 30 + 30 + 58 * 2 + 16 + 30 + 65 * moves)
+    left = total - (30 + 44 + 44 + 44 + 58 * 2 + 16 + 30 + 65 * moves)
     nils = next(n for n in range(7) if (left - 23 - 16 * n) % 7 == 0)
     text = bytes(97 + i % 26 for i in range((left - 23 - 16 * nils) // 7))
     return Function([abc(MOVE, 0, 1)] * moves + [abc(RETURN, 0, 1)], 2, [None] * nils + [text])
+
+
+def with_lines(f):
+    """a source line for each word, three words to a line, in f and in all functions below it"""
+    f.lines = [1 + i // 3 for i in range(len(f.words))]
+    for child in f.children:
+        with_lines(child)
+    return f
 
 
 def all_chunks():
@@ -140,6 +150,11 @@ def all_chunks():
     yield "many-256", closures([mix(33) for _ in range(255)])
     yield "deep-32", deep(32)
     yield "full", full()
+    for n in (768, 4096):
+        yield "mix-%d-lines" % n, with_lines(mix(n))
+    yield "captures-4096-lines", with_lines(captures(4096))
+    yield "parts-8-lines", with_lines(closures([mix(768) for _ in range(8)]))
+    yield "full-lines", with_lines(full())
 
 
 def main(directory, width="8"):
