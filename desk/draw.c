@@ -57,26 +57,44 @@ static void draw_function(const listing *l)
           function, function, parameters, upvalues, registers);
 }
 
+/* One of what is counted, or several. */
+static void put_span(const char *counted, unsigned long first, unsigned long last)
+{
+    if (first == last)
+        print("%s %lu", counted, first);
+    else
+        print("%ss %lu to %lu", counted, first, last);
+}
+
 static void put_words(unsigned long first, unsigned long past)
 {
     if (first == past)
         print("no words");
-    else if (first + 1 == past)
-        print("word %lu", first);
     else
-        print("words %lu to %lu", first, past - 1);
+        put_span("word", first, past - 1);
 }
 
-/* The head of a box, by a B line. In its label { | } make parts, and \l ends a row that is set to the left. */
+/* The source lines of a block, in a row of their own; nothing where both are 0. */
+static void put_lines(unsigned long lowest, unsigned long highest)
+{
+    if (highest == 0)
+        return;
+    print("\\n");
+    put_span("line", lowest, highest);
+}
+
+/* The head of a box, by a B line. In its label { | } make parts, \n ends a row, and \l one that is set to the left. */
 static void put_head(const listing *l)
 {
     enum { CODE, ENTRY, BETWEEN };
     static const char *const styles[] = {[CODE] = "solid", [ENTRY] = "bold", [BETWEEN] = "dashed"};
     static const char *const names[] = {[CODE] = "", [ENTRY] = "entry", [BETWEEN] = "between"};
     unsigned long block = number(l, 0), first = number(l, 1), past = number(l, 2), kind = number(l, 3);
+    unsigned long lowest = number(l, 4), highest = number(l, 5);
     print("  %lu [style=%s, label=\"{block %lu: %s", block, styles[kind], block, names[kind]);
     if (kind == CODE)
         put_words(first, past);
+    put_lines(lowest, highest);
 }
 
 /* What stands before number i of an S line. */

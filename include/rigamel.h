@@ -15,17 +15,18 @@
  *             ...                                   (the first answer.length bytes of out are the next function's listing)
  *     }
  *
- * Then answer.number is RIGAMEL_NO_FUNCTION, 32, where all functions were delivered. Any other number is 1 to 14: the opening
+ * Then answer.number is RIGAMEL_NO_FUNCTION, 32, where all functions were delivered. Any other number is 1 to 15: the opening
  * refused the chunk, and nothing was delivered. (31 comes only where no chunk is open. Whoever lends a delivery other bytes than
- * were opened may meet 1 to 14 there, and 32 earlier or later.)
+ * were opened may meet 1 to 15 there, and 32 earlier or later.)
  *
  * examples/c/listing.c is such a program; it also looks at what malloc, realloc, reading and writing answer. To begin with fewer
  * bytes costs time: a delivery that ends in 33 has judged the chunk and counted the listing, more than half of what a delivery
  * costs.
  *
- * A listing is lines: a letter, then decimal numbers in 7 columns each. A statement's line is S, the word that gives it, that word's
- * opcode, and the statement; in the entry block, to which no word belongs, the function's count of words and 99 stand for the first
- * two. README.md and rigamel(1) tell about all lines.
+ * A listing is lines: a letter, then decimal numbers in 7 columns each. A block's line is B, its number, its first word, one past
+ * the last, its kind, and the lowest and the highest source line of its words, both 0 where the block has no words or the function
+ * no lines. A statement's line is S, the word that gives it, that word's opcode, and the statement; in the entry block, to which no
+ * word belongs, the function's count of words and 99 stand for the first two. README.md and rigamel(1) tell about all lines.
  *
  * Link librigamel.a (x86-64 Linux): `pkg-config --cflags --libs rigamel` where it is installed, else target/staticlib/librigamel.a.
  *
@@ -54,8 +55,8 @@ extern "C" {
 #endif
 
 /* The version of Rigamel. It is raised with what users or programs in C can see. 0.2: an S line begins with the word behind its
- * statement and that word's opcode. */
-#define RIGAMEL_VERSION "0.2"
+ * statement and that word's opcode. 0.3: a B line ends with the lowest and the highest source line of its block; refusal 15. */
+#define RIGAMEL_VERSION "0.3"
 
 /* A reading of a chunk. The caller keeps it, may copy it, and lends it to each call, which alters it. Any numbers may stand in it:
  * `opened` is 0 where it is closed, and any other number where it is open; `next` is the function whose listing comes next. */
@@ -73,7 +74,7 @@ typedef struct rigamel_answer {
     uint64_t length;
 } rigamel_answer;
 
-/* The numbers of the refusals. For 1 to 6 the function is 0, and the place an offset into the chunk. For 7 to 14 the function is
+/* The numbers of the refusals. For 1 to 6 the function is 0, and the place an offset into the chunk. For 7 to 15 the function is
  * the one at fault, and the place a word of it, but 0 for 7 and where it has no words. For 31 to 33 the function is the reading's
  * next one, and the place 0. `rigamel help refusals` says what to do about each. */
 enum rigamel_number {
@@ -95,6 +96,7 @@ enum rigamel_number {
                                        with its first slot above the opener's A; TAILCALL not used by RETURN with the same A */
     RIGAMEL_CAPTURES = 13,          /* CLOSURE not followed in its range by a MOVE or GETUPVAL for each upvalue of its function */
     RIGAMEL_SHARED = 14,            /* the word after TESTSET is a jump target or skip of any word, itself included */
+    RIGAMEL_LINE = 15,              /* a word's source line above 999,999 */
     RIGAMEL_NOT_OPENED = 31,        /* not opened: the reading is closed */
     RIGAMEL_NO_FUNCTION = 32,       /* the next function is not below the lent chunk's count: all of them are delivered */
     RIGAMEL_OUTPUT_SHORT = 33       /* output shorter than the listing: lend a longer one */
@@ -115,7 +117,7 @@ rigamel_reading rigamel_closed(void);
 /* Judges the `length` bytes at `chunk`, whole.
  *
  * Where the chunk is accepted the answer gives its count of functions, at most 256, and *reading is open at function 0: { 1, 0 }.
- * Where it is refused the answer is its first refusal, 1 to 14, and *reading is closed at function 0: { 0, 0 }.
+ * Where it is refused the answer is its first refusal, 1 to 15, and *reading is closed at function 0: { 0, 0 }.
  * What stood in *reading before does not matter. */
 rigamel_answer rigamel_open(const uint8_t *chunk, size_t length, rigamel_reading *reading);
 
@@ -123,7 +125,7 @@ rigamel_answer rigamel_open(const uint8_t *chunk, size_t length, rigamel_reading
  *
  * The chunk is judged afresh: it need not be the one that was opened, or stand where it stood. In this order:
  *   a closed reading           31, RIGAMEL_NOT_OPENED
- *   a refused chunk            1 to 14
+ *   a refused chunk            1 to 15
  *   no function of the number  32, RIGAMEL_NO_FUNCTION
  *   too short an output        33, RIGAMEL_OUTPUT_SHORT
  * and a refused delivery leaves both numbers of *reading and every byte of the output as they were.
