@@ -155,7 +155,17 @@ static size_t put_chunk(uint8_t *s, uint8_t stack, const uint32_t *words, uint32
     return put_function(s, FUNCTION, 0, stack, words, n, inner, nested, count);
 }
 
-/* ------------------------------------------------------------ refusals of the input, 1 to 14 */
+/* Gives main source lines, in a chunk of n bytes without any: the counts of lines, locals and upvalue names end it. */
+static size_t put_lines(uint8_t *s, size_t n, const uint32_t *lines, uint32_t count)
+{
+    size_t i = put_count(s, n - 12, count);
+    for (uint32_t k = 0; k < count; k++)
+        i = put_count(s, i, lines[k]);
+    i = put_count(s, i, 0);
+    return put_count(s, i, 0);
+}
+
+/* ------------------------------------------------------------ refusals of the input, 1 to 15 */
 
 static void check_chunks(void)
 {
@@ -215,6 +225,30 @@ static void check_chunks(void)
     const uint32_t shared[] = {word(TESTSET, 0, 1, 0), jump(-1), ret};
     n = put_chunk(s, 2, shared, 3, NULL, 0, 0);
     refused_chunk(s, n, RIGAMEL_SHARED, 0, 0);
+}
+
+/* 15: the last line that stands, the first that does not, read as unsigned; behind 14 of any word, before 7 of the next function */
+static void check_lines(void)
+{
+    static uint8_t s[256], inner[SIZE];
+    const uint32_t words[] = {word(MOVE, 0, 1, 0), word(RETURN, 0, 1, 0)};
+    const uint32_t stands[] = {0, 999999}, above[] = {999999, 1000000}, negative[] = {UINT32_MAX, 1};
+    rigamel_reading r;
+    size_t n = put_chunk(s, 2, words, 2, NULL, 0, 0);
+    CHECK(gives(rigamel_open(s, put_lines(s, n, stands, 2), &r), 1) && is_at(r, 1, 0));
+    refused_chunk(s, put_lines(s, n, above, 2), RIGAMEL_LINE, 0, 1);
+    refused_chunk(s, put_lines(s, n, negative, 2), RIGAMEL_LINE, 0, 0);
+    refused_chunk(s, put_lines(s, n, above, 1), RIGAMEL_HEAD, 0, 0);
+
+    const uint32_t shared[] = {word(MOVE, 0, 1, 0), word(TESTSET, 0, 1, 0), jump(-1), word(RETURN, 0, 1, 0)};
+    const uint32_t first_above[] = {1000000, 1, 1, 1};
+    n = put_chunk(s, 2, shared, 4, NULL, 0, 0);
+    refused_chunk(s, put_lines(s, n, first_above, 4), RIGAMEL_SHARED, 0, 1);
+
+    const size_t m = put_function(inner, 0, 0, 251, words + 1, 1, NULL, 0, 0);
+    n = put_chunk(s, 2, words, 2, inner, m, 1);
+    refused_chunk(s, n, RIGAMEL_HEAD, 1, 0);
+    refused_chunk(s, put_lines(s, n, above, 2), RIGAMEL_LINE, 0, 1);
 }
 
 /* ------------------------------------------------------------ deliveries, and refusals of the state */
@@ -306,6 +340,7 @@ int main(int argc, char **argv)
     uint8_t *chunk = read_file(argv[1], &n);
     uint8_t *listing = read_file(argv[2], &total);
     check_chunks();
+    check_lines();
     check_deliveries(chunk, n, listing, total);
     check_printing(RIGAMEL_TARGET, 3, 17);
     check_printing(RIGAMEL_NOT_OPENED, UINT32_MAX, 0);
