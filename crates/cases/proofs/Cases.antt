@@ -22,12 +22,14 @@ use Rattle.cfg.specs.Graph.{diverted, betweenOf}
 use Rattle.lua51_instruction.specs.Jump.{targetOf}
 use Rattle.lua51_lifter.specs.Check.{firstRefusal, headFault, lastFault, operand, operandFault, landsInside, tests}
 use Rattle.lua51_lifter.specs.Check.{wordVerdict, opener, user, slot, matches, unused-results, missing-results}
-use Rattle.lua51_lifter.specs.Check.{allCaptures, reaches, reached, useVerdict, check}
+use Rattle.lua51_lifter.specs.Check.{allCaptures, reaches, reached, useVerdict, lineVerdict, check}
 use Rattle.lua51_lifter.specs.Lift.{rk, condition, concatenated, captures, taken, openResults, statementsBy, pending}
 use Rattle.lua51_lifter.specs.Lift.{statements, onThen}
 use Rattle.lua51_lifter.specs.Blocks.{leads, edgesOf, entryNils, stated, brought, front, codeBlock, entryBlock, betweenBlock}
 use Rattle.lua51_lifter.specs.Blocks.{blocks, naming, graph}
-use Rattle.lua51_lifter.specs.Listing.{value, constantItems, blockItems, allBlockItems, functionItems, namedNumbers, items, listing}
+use Rattle.lua51_lifter.specs.SourceLines.{linesOf, lowest, highest}
+use Rattle.lua51_lifter.specs.Listing.{value, constantItems, blockItems, allBlockItems, functionItems, namedNumbers}
+use Rattle.lua51_lifter.specs.Listing.{sourceLines, items, listing}
 use Rattle.lua51_lifter.specs.WordBehind.{comparedItems}
 use Rattle.judging.specs.Judge.{judgeFrom, judgeRead, judge, listingOf}
 use Rattle.reading.specs.Program.{listings, piecesFor, pieces}
@@ -39,12 +41,13 @@ use Rattle.follow.specs.WordFollower.{named, RK, jumped, upward, slots, nils, s
 use Rattle.follow.specs.WordFollower.{takesOpen, firstSlot, taken-up, kept, takes, testing, doing, wordStepFrom}
 use Rattle.follow.specs.WordFollower.{wordStep, byWords}
 use Rattle.lines.specs.Text.{bytes}
-use Rattle.cases.specs.Make.{int, functionBytes, chunk}
+use Rattle.cases.specs.Make.{int, linedBytes, functionBytes, chunk, linedChunk}
 use Rattle.cases.specs.Cases.{answerNumbers, eventNumbers, functionOf, told, Case, AllHold}
 use Rattle.cases.specs.Table.{return-alone, return-compared, return-listing, equal-jump, equal-back, numeric-for}
 use Rattle.cases.specs.Table.{loop-onward, loop-first, open-return, three-deep, proved-cases, jump-over-listing}
 use Rattle.cases.specs.Table.{past-the-jump, slip-cases, listing-0, listing-1, listing-2, nested-cases, set-or-jump}
-use Rattle.cases.specs.Table.{loop-body, generic-for, word-cases, cases}
+use Rattle.cases.specs.Table.{loop-body, generic-for, word-cases, lined-for, lined-moves, lined-closure, line-cases}
+use Rattle.cases.specs.Table.{cases}
 
 -- ------------------------------------------------------------ the test
 
@@ -80,14 +83,16 @@ unfolding targetOf flatMap flatten digits decimal column line over sum times opO
     exactly signature ends walk kindOf ints valueAt valuesAt nestedIn constantsAt protoAt count expr exprs tailNumbers run
     registers claims leader blockOf leaderFrom past leaving exits entering isLoop thenOf diverted betweenOf firstRefusal
     headFault lastFault operand operandFault landsInside tests wordVerdict opener user slot matches unused-results
-    missing-results allCaptures reaches reached useVerdict check rk condition concatenated captures taken openResults
+    missing-results allCaptures reaches reached useVerdict lineVerdict check rk condition concatenated captures taken openResults
     statementsBy pending statements onThen leads edgesOf entryNils stated brought front codeBlock entryBlock
-    betweenBlock blocks naming graph value constantItems blockItems allBlockItems functionItems namedNumbers items
-    listing judgeFrom judgeRead judge listingOf listings piecesFor pieces onward account fold folds marked marks
+    betweenBlock blocks naming graph value constantItems blockItems allBlockItems functionItems namedNumbers linesOf lowest
+    highest sourceLines items listing judgeFrom judgeRead judge listingOf listings piecesFor pieces onward account fold folds marked marks
     opensOf opensIn inside outside insides outsides tailOpens tailMarked actions bare endingOf ending answered
     nextBlock graphStep entryFrom byBlocks byGraph named RK jumped upward slots nils strung areCaptures capturesFrom
-    takesOpen firstSlot taken-up kept takes testing doing wordStepFrom wordStep byWords int functionBytes chunk bytes
+    takesOpen firstSlot taken-up kept takes testing doing wordStepFrom wordStep byWords int linedBytes functionBytes
+    chunk linedChunk bytes
     answerNumbers eventNumbers functionOf comparedItems told return-alone return-compared return-listing equal-jump
     equal-back numeric-for loop-onward loop-first open-return three-deep proved-cases jump-over-listing past-the-jump
-    slip-cases listing-0 listing-1 listing-2 nested-cases set-or-jump loop-body generic-for word-cases cases
+    slip-cases listing-0 listing-1 listing-2 nested-cases set-or-jump loop-body generic-for word-cases lined-for
+    lined-moves lined-closure line-cases cases
 all-hold = hold cases refl

@@ -7,7 +7,7 @@ use Rattle.lua51_instruction.specs.Proto.{Proto}
 use Rattle.lua51_deserializer.specs.Chunk.{walk, protoAt, constantsAt}
 use Rattle.ast.specs.Statement.{expr, run}
 use Rattle.lua51_lifter.specs.Blocks.{blockAt, saidIn}
-use Rattle.lua51_lifter.specs.Listing.{itemLine}
+use Rattle.lua51_lifter.specs.Listing.{itemLine, sourceLines}
 use Rattle.lua51_lifter.specs.WordBehind.{comparedItems}
 use Rattle.judging.specs.Judge.{Answer, given, refusal, judge, listingOf}
 use Rattle.reading.specs.Program.{pieces}
@@ -32,6 +32,8 @@ pub data Asked : Type 0 where
   edges : ℕ → ℕ → Asked
   -- of the same: the words that its statements name, each with its opcode
   behind : ℕ → ℕ → Asked
+  -- of the same: the two numbers at the end of its B line
+  sources : ℕ → ℕ → Asked
   -- of a function and a list of answers: what the follower of the graph and that of the words write, in 20 steps
   by-graph : ℕ → List Bool → Asked
   by-words : ℕ → List Bool → Asked
@@ -68,6 +70,7 @@ told s printed = flatMap (λ piece. piece) (pieces s)
 told s (statements f b) = flatMap run (saidIn (blockAt (functionOf s f) b))
 told s (edges f b) = flatMap (λ e. e .kind ∷ e .to ∷ []) (blockAt (functionOf s f) b .edges)
 told s (behind f b) = flatMap (λ x. x .word ∷ x .opcode ∷ []) (blockAt (functionOf s f) b .body)
+told s (sources f b) = let p = functionOf s f in sourceLines p (blockAt p b)
 told s (by-graph f answers) = flatMap eventNumbers (byGraph (functionOf s f) 20 answers)
 told s (by-words f answers) = flatMap eventNumbers (byWords (functionOf s f) 20 answers)
 

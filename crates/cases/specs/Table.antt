@@ -1,5 +1,5 @@
--- The table of cases: document 01's P1 to P10, a case for each of its slips, functions that may not be confused, and the words
--- that statements name (document 02, 1).
+-- The table of cases: document 01's P1 to P10, a case for each of its slips, functions that may not be confused, the words that
+-- statements name, and source lines (document 02, 1 and 2).
 use mathlib.Core.Bool.{true}
 use mathlib.Core.List.{List, [], _∷_, _++_}
 use Prim.Native.Nat.{ℕ}
@@ -8,8 +8,8 @@ use Rattle.lua51_instruction.specs.Word.{RETURN, FORLOOP, FORPREP, TFORLOOP, SE
 use Rattle.lua51_deserializer.specs.Chunk.{header}
 use Rattle.lines.specs.Text.{bytes}
 use Rattle.lua51_instruction.specs.Encode.{abc, abx, jumps}
-use Rattle.cases.specs.Make.{functionBytes, chunk}
-use Rattle.cases.specs.Cases.{Case, Asked, judged, listed, compared, printed, statements, edges, behind, by-graph, by-words}
+use Rattle.cases.specs.Make.{linedBytes, functionBytes, chunk, linedChunk}
+use Rattle.cases.specs.Cases.{Case, Asked, judged, listed, compared, printed, statements, edges, behind, sources, by-graph, by-words}
 
 abbrev case : List ℕ → Asked → List ℕ → Case
 case s asked expected = record { chunk = s; asked = asked; expected = expected }
@@ -36,14 +36,14 @@ return-compared =
     ++ bytes "S      1      1      1      1      1      3\n"
     ++ bytes "E      0      0\n"
 
--- its listing, each S line with the word and its opcode (document 02, 1)
+-- its listing, each S line with the word and its opcode (document 02, 1), each B line with two source lines (2)
 unfoldable pub return-listing : List ℕ
 return-listing =
     bytes "F      0      0      0      2\n"
-    ++ bytes "B      0      0      1      0\n"
+    ++ bytes "B      0      0      1      0      0      0\n"
     ++ bytes "S      0     30      4      0\n"
-    ++ bytes "B      1      1      1      0\n"
-    ++ bytes "B      2      1      1      1\n"
+    ++ bytes "B      1      1      1      0      0      0\n"
+    ++ bytes "B      2      1      1      1      0      0\n"
     ++ bytes "S      1     99      1      1      1      1      0      3\n"
     ++ bytes "S      1     99      1      1      1      1      1      3\n"
     ++ bytes "E      0      0\n"
@@ -117,15 +117,15 @@ proved-cases =
 unfoldable pub jump-over-listing : List ℕ
 jump-over-listing =
     bytes "F      0      0      0      1\n"
-    ++ bytes "B      0      0      1      0\n"
+    ++ bytes "B      0      0      1      0      0      0\n"
     ++ bytes "E      0      2\n"
-    ++ bytes "B      1      1      2      0\n"
+    ++ bytes "B      1      1      2      0      0      0\n"
     ++ bytes "S      1      0      1      1      1      1      0      1      0\n"
     ++ bytes "E      0      2\n"
-    ++ bytes "B      2      2      3      0\n"
+    ++ bytes "B      2      2      3      0      0      0\n"
     ++ bytes "S      2     30      4      0\n"
-    ++ bytes "B      3      3      3      0\n"
-    ++ bytes "B      4      3      3      1\n"
+    ++ bytes "B      3      3      3      0      0      0\n"
+    ++ bytes "B      4      3      3      1      0      0\n"
     ++ bytes "S      3     99      1      1      1      1      0      3\n"
     ++ bytes "E      0      0\n"
 
@@ -154,12 +154,12 @@ unfoldable pub listing-0 : List ℕ
 listing-0 =
     bytes "F      0      0      0      2\n"
     ++ bytes "K      0      3  32760   1541   1027    513\n"
-    ++ bytes "B      0      0      3      0\n"
+    ++ bytes "B      0      0      3      0      0      0\n"
     ++ bytes "S      0     36      1      1      1      1      0     12      1      0\n"
     ++ bytes "S      1      1      1      1      1      1      1      2      0\n"
     ++ bytes "S      2     30      4      0\n"
-    ++ bytes "B      1      3      3      0\n"
-    ++ bytes "B      2      3      3      1\n"
+    ++ bytes "B      1      3      3      0      0      0\n"
+    ++ bytes "B      2      3      3      1      0      0\n"
     ++ bytes "S      3     99      1      1      1      1      0      3\n"
     ++ bytes "S      3     99      1      1      1      1      1      3\n"
     ++ bytes "E      0      0\n"
@@ -167,22 +167,22 @@ listing-0 =
 unfoldable pub listing-1 : List ℕ
 listing-1 =
     bytes "F      1      2      0      3\n"
-    ++ bytes "B      0      0      3      0\n"
+    ++ bytes "B      0      0      3      0      0      0\n"
     ++ bytes "S      0     36      1      1      1      1      2     12      2      1      1      1\n"
     ++ bytes "S      2     30      4      1      1      2\n"
-    ++ bytes "B      1      3      3      0\n"
-    ++ bytes "B      2      3      3      1\n"
+    ++ bytes "B      1      3      3      0      0      0\n"
+    ++ bytes "B      2      3      3      1      0      0\n"
     ++ bytes "S      3     99      1      1      1      1      2      3\n"
     ++ bytes "E      0      0\n"
 
 unfoldable pub listing-2 : List ℕ
 listing-2 =
     bytes "F      2      0      1      1\n"
-    ++ bytes "B      0      0      2      0\n"
+    ++ bytes "B      0      0      2      0      0      0\n"
     ++ bytes "S      0      4      1      1      1      1      0      5      0\n"
     ++ bytes "S      1     30      4      1      1      0\n"
-    ++ bytes "B      1      2      2      0\n"
-    ++ bytes "B      2      2      2      1\n"
+    ++ bytes "B      1      2      2      0      0      0\n"
+    ++ bytes "B      2      2      2      1      0      0\n"
     ++ bytes "S      2     99      1      1      1      1      0      3\n"
     ++ bytes "E      0      0\n"
 
@@ -228,7 +228,49 @@ word-cases =
     case open-return (behind 0 0) (1 ∷ 30 ∷ []) ∷
     case (chunk 1 (abc TAILCALL 0 1 0 ∷ abc RETURN 0 0 0 ∷ return ∷ [])) (behind 0 0) (1 ∷ 30 ∷ []) ∷ []
 
+-- ------------------------------------------------------------ source lines (document 02, 2)
+
+-- the words of `numeric-for`, with lines
+unfoldable pub lined-for : List ℕ
+lined-for = linedChunk 4 (jumps FORPREP 0 0 1 ∷ jumps FORLOOP 0 1 1 ∷ return ∷ []) (3 ∷ 5 ∷ 8 ∷ [])
+
+-- MOVE three times, and RETURN, with lines
+unfoldable pub lined-moves : List ℕ → List ℕ
+lined-moves lines = linedChunk 1 (abc MOVE 0 0 0 ∷ abc MOVE 0 0 0 ∷ abc MOVE 0 0 0 ∷ return ∷ []) lines
+
+-- CLOSURE with the capture behind it, and RETURN, with lines; the function that it makes has a stack and lines
+unfoldable pub lined-closure : List ℕ → ℕ → List ℕ → List ℕ
+lined-closure lines stack inner =
+    header
+    ++ linedBytes 0 0 0 1 (abx CLOSURE 0 0 ∷ abc MOVE 0 0 0 ∷ return ∷ []) [] (linedBytes 1 0 0 stack (return ∷ []) [] [] inner ∷ []) lines
+
+unfoldable pub line-cases : List Case
+line-cases =
+    -- 'the lowest and highest line of the block's words': neither is that of the first word or of the last
+    case (lined-moves (5 ∷ 9 ∷ 2 ∷ 4 ∷ [])) (sources 0 0) (2 ∷ 9 ∷ []) ∷
+    case lined-for (sources 0 0) (3 ∷ 3 ∷ []) ∷
+    case lined-for (sources 0 1) (5 ∷ 5 ∷ []) ∷
+    -- 'both are 0 for an empty range, entry, between, or a function without lines'
+    case lined-for (sources 0 3) (0 ∷ 0 ∷ []) ∷
+    case lined-for (sources 0 4) (0 ∷ 0 ∷ []) ∷
+    case lined-for (sources 0 5) (0 ∷ 0 ∷ []) ∷
+    case numeric-for (sources 0 1) (0 ∷ 0 ∷ []) ∷
+    -- one function may have lines where another has none; the lines of captures count
+    case (lined-closure [] 1 (7 ∷ [])) (sources 0 0) (0 ∷ 0 ∷ []) ∷
+    case (lined-closure [] 1 (7 ∷ [])) (sources 1 0) (7 ∷ 7 ∷ []) ∷
+    case (lined-closure (4 ∷ 6 ∷ 5 ∷ []) 1 []) (sources 0 0) (4 ∷ 6 ∷ []) ∷
+    -- 15: 'a line above 999,999, read as unsigned; place its word'
+    case (lined-moves (5 ∷ 999999 ∷ 0 ∷ 4 ∷ [])) judged (1 ∷ []) ∷
+    case (lined-moves (5 ∷ 9 ∷ 1000000 ∷ 4 ∷ [])) judged (15 ∷ 0 ∷ 2 ∷ []) ∷
+    case (lined-moves (5 ∷ 9 ∷ 2 ∷ 0xFFFFFFFF ∷ [])) judged (15 ∷ 0 ∷ 3 ∷ []) ∷
+    case (lined-closure (4 ∷ 1000000 ∷ 4 ∷ []) 1 []) judged (15 ∷ 0 ∷ 1 ∷ []) ∷
+    case (lined-closure (4 ∷ 4 ∷ 4 ∷ []) 1 (1000000 ∷ [])) judged (15 ∷ 1 ∷ 0 ∷ []) ∷
+    -- 'tested after 12 to 14': 12 at a later word comes first; and in its function, before 7 of the next
+    case (linedChunk 1 (abc MOVE 0 0 0 ∷ abc CALL 0 1 0 ∷ return ∷ []) (1000000 ∷ 1 ∷ 1 ∷ [])) judged (12 ∷ 0 ∷ 1 ∷ []) ∷
+    case (lined-closure (4 ∷ 4 ∷ 1000000 ∷ []) 251 []) judged (15 ∷ 0 ∷ 2 ∷ []) ∷
+    case (lined-closure (4 ∷ 4 ∷ 4 ∷ []) 251 []) judged (7 ∷ 1 ∷ 0 ∷ []) ∷ []
+
 -- ------------------------------------------------------------ all
 
 unfoldable pub cases : List Case
-cases = proved-cases ++ slip-cases ++ nested-cases ++ word-cases
+cases = proved-cases ++ slip-cases ++ nested-cases ++ word-cases ++ line-cases
