@@ -1,2 +1,2 @@
-// Checking a function: refusals 7 to 14.
-pub mod check; // refusals 7 to 11, then 12 to 14
+// Checking a function: refusals 7 to 15.
+pub mod check; // refusals 7 to 11, then 12 to 14, then 15

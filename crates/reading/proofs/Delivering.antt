@@ -36,7 +36,7 @@ module _ (r : Reading) (s out : List ℕ) where
   unfolding delivery
   not-opened shut = rw shut
 
-  -- 1 to 14
+  -- 1 to 15
   pub input-refused : (x : Refusal) → r .is-open ≡ true → refusalOf x ≡ judge s → unchanged r out (refusalOf x) ≡ delivery r s out
   unfolding delivery deliveredBy
   input-refused x opened j = rw (opened, ← j, refused x .is)
