@@ -131,7 +131,7 @@ module _ (p : Proto) where
   lined b few empty = record {
     low = low (b .first) (b .past);
     high = high (b .first) (b .past);
-    shown = refl;
+    shown = λ n. refl;
     words = λ some.
         let l = low-stands (b .first) (b .past) some in
         let h = high-stands (b .first) (b .past) some in

@@ -9,7 +9,7 @@ use Rattle.lines.specs.Line.{letter-B}
 use Rattle.lua51_instruction.specs.Proto.{Proto, lineAt}
 use Rattle.lua51_value.specs.Value.{Value}
 use Rattle.lua51_lifter.specs.Blocks.{Block, kind-code, Named, graph, blockAt}
-use Rattle.lua51_lifter.specs.Listing.{Item, item, functionItems, namedNumbers, sourceLines, items}
+use Rattle.lua51_lifter.specs.Listing.{Item, item, blockItem, functionItems, namedNumbers, sourceLines, items}
 use Rattle.lua51_lifter.specs.Check.{check, fine, most-line}
 
 -- ------------------------------------------------------------ without the two numbers
@@ -42,11 +42,11 @@ pub record Spans (p : Proto) (b : Block Named) (low high : ℕ) : Type 0 where
   pub highest : LineOf p b high
   pub within : (i : ℕ) → b .first ≤ i → i < b .past → (low ≤ lineAt p i) × (lineAt p i ≤ high)
 
--- the two numbers at the end of a block's B line
+-- the B line of a block, whatever its number, and the two numbers at its end
 pub record Lined (p : Proto) (b : Block Named) : Type 0 where
   pub low : ℕ
   pub high : ℕ
-  pub shown : sourceLines p b ≡ low ∷ high ∷ []
+  pub shown : (n : ℕ) → blockItem namedNumbers (sourceLines p) n b ≡ item letter-B (n ∷ b .first ∷ b .past ∷ b .kind ∷ low ∷ high ∷ [])
   pub words : b .first < b .past → Spans p b low high
   -- 'both are 0 for an empty range, entry, between, or a function without lines'
   pub empty : b .past ≤ b .first → (low ≡ 0) × (high ≡ 0)
