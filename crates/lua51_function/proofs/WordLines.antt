@@ -3,13 +3,12 @@ use Prim.Native.Nat.{ℕ, _+_, _-_, _*_, _≤_, _<_}
 use native.Mathlib.Omega.{arith}
 use mathlib.Core.Bool.{true, false}
 use mathlib.Core.List.{List}
-use mathlib.Core.Path.{_≡_, refl, sym, _∙_, ap}
+use mathlib.Core.Path.{_≡_, sym, _∙_}
 use lib.Dec.{ltb}
 use lib.ListN.{getD, length, take, drop, length-take, length-drop, List·getD-eq-default}
 use lib.Seq.{getD-take, getD-drop, take-all}
 use borrow.Author.Tests.{ltb-true, ltb-false}
 use Rattle.basics.proofs.Tests.{either-way}
-use Rattle.lua51_instruction.specs.Proto.{lineAt}
 use Rattle.lua51_deserializer.specs.Chunk.{Place, nowhere, ints, protoAt}
 use Rattle.lua51_value.specs.Bytes.{byteAt, intAt}
 use Rattle.lua51_value.specs.Constant.{within}

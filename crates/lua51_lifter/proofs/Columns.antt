@@ -8,7 +8,7 @@ use Rattle.lua51_instruction.specs.Proto.{Proto}
 use Rattle.lua51_value.specs.Value.{Value}
 use Rattle.ast.specs.Statement.{run}
 use Rattle.cfg.specs.Graph.{Edge}
-use Rattle.lua51_lifter.specs.Blocks.{Block, Named, graph}
+use Rattle.lua51_lifter.specs.Blocks.{Block, graph}
 use Rattle.lua51_lifter.specs.Listing.{Item, item, statementItem, edgeItem, blockItem, blockItems, allBlockItems}
 use Rattle.lua51_lifter.specs.Listing.{constantItems, functionItems, namedNumbers, sourceLines, items}
 use Rattle.lua51_lifter.specs.LinesShown.{no-lines, unlinedItems, withoutLines, LinesAlone}

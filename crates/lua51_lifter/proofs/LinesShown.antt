@@ -2,7 +2,7 @@
 -- nothing.
 use Prim.Native.Nat.{ℕ, zero, suc, _+_, _-_, _≤_, _<_, min, max}
 use native.Mathlib.Omega.{arith}
-use mathlib.Core.Path.{_≡_, refl, sym, ap, _∙_}
+use mathlib.Core.Path.{_≡_, refl}
 use mathlib.Core.Logic.{_⊎_, inl, inr}
 use mathlib.Core.List.{List, foldl}
 use lib.Dec.{eqb, leb, ltb}
@@ -10,13 +10,12 @@ use lib.ListN.{length, List·getD-eq-default}
 use borrow.Author.Tests.{eqb-true, eqb-false, leb-true, leb-false, ltb-true, ltb-false}
 use Rattle.basics.specs.Range.{over, only}
 use Rattle.basics.proofs.Tests.{either-way}
-use Rattle.lua51_instruction.specs.Proto.{Proto, size, lineAt}
-use Rattle.cfg.specs.Graph.{leader, past}
+use Rattle.lua51_instruction.specs.Proto.{Proto, lineAt}
 use Rattle.lua51_lifter.specs.Blocks.{Block, kind-code, no-block, codeBlock, entryBlock, betweenBlock, Named, naming, graph, blockAt}
 use Rattle.lua51_lifter.specs.SourceLines.{linesOf, lowest, highest}
 use Rattle.lua51_lifter.specs.Listing.{sourceLines}
 use Rattle.lua51_lifter.specs.Check.{check, fine, most-line}
-use Rattle.lua51_lifter.specs.LinesShown.{LineOf, Spans, Lined, ShowsLines}
+use Rattle.lua51_lifter.specs.LinesShown.{Lined, ShowsLines}
 use Rattle.lua51_lifter.proofs.Accepted.{line-few, end-leader}
 use Rattle.lua51_lifter.proofs.Blocks.{Stands, stands}
 use Rattle.lua51_lifter.proofs.Blocks.Stands.{is-code, is-entry, is-between, is-none}
