@@ -1,5 +1,6 @@
 -- The lines of one block, part by part. Assumes nothing.
 use Prim.Native.Nat.{ℕ, zero, suc, _-_, _≤_}
+use native.Mathlib.Omega.{arith}
 use mathlib.Core.Bool.{true, false}
 use mathlib.Core.List.{List, [], _∷_, _++_, map, flatMap}
 use mathlib.Core.Path.{_≡_, refl, _∙_, sym}
@@ -21,7 +22,7 @@ use Rattle.lua51_statements.proofs.Pieces.{pieces-append, pieces-one}
 use Rattle.lua51_lister.proofs.Runs.{then-whole}
 use Rattle.block_lines.specs.Lines.{run-numbers, Checked, Held, betweenLines}
 use Rattle.block_lines.proofs.Fronts.{noted, front-noted}
-use Rattle.block_lines.proofs.Spans.{no-lines}
+use Rattle.lua51_lifter.proofs.LinesShown.{lines-none}
 
 -- a function that the code holds, once its graph is noted
 pub checked : {p : Proto} {h : Head} {ws fs us ls ns : List ℕ} → Held p h ws fs us ls → ns ≡ notesOf p → Checked p ws ns
@@ -90,7 +91,7 @@ pub entry-printed : (p : Proto) (number n parameters stack : ℕ) (o o₁ o₂ o
     → o₃ ≡ puts o₂ (line letter-E (0 ∷ 0 ∷ [])) → o₃ ≡ puts o (blockLine p number (entryBlock naming p))
 unfolding entryBlock entryNils sourceLines lowest highest
 entry-printed p number n parameters stack o o₁ o₂ o₃ ps st count first body edge =
-    edge ∙ rw (body, first, count, ← ps, ← st, ← (plain-line 0)) (sym (rw (no-lines p (size p)) at (block-parts p o number (entryBlock naming p))))
+    edge ∙ rw (body, first, count, ← ps, ← st, ← (plain-line 0)) (sym (rw (lines-none p (size p) (size p) (omega arith)) at (block-parts p o number (entryBlock naming p))))
 
 -- a between block
 module _ (p : Proto) (i : ℕ) where
@@ -105,4 +106,4 @@ module _ (p : Proto) (i : ℕ) where
       → o₃ ≡ puts o₂ (line letter-E (0 ∷ to ∷ [])) → o₃ ≡ puts o (betweenLines p i)
   unfolding betweenLines betweenBlock sourceLines lowest highest
   between-printed number n to room o o₁ o₂ o₃ h roomy num count target first body edge =
-      edge ∙ rw (h, body, first, num, count, target, then-whole p i room roomy, ← (plain-line (blockOf p (thenOf p i)))) (sym (rw (no-lines p (size p)) at (block-parts p o (betweenOf p i) (betweenBlock naming p i))))
+      edge ∙ rw (h, body, first, num, count, target, then-whole p i room roomy, ← (plain-line (blockOf p (thenOf p i)))) (sym (rw (lines-none p (size p) (size p) (omega arith)) at (block-parts p o (betweenOf p i) (betweenBlock naming p i))))

@@ -4,8 +4,9 @@ use native.Mathlib.Omega.{arith}
 use mathlib.Core.List.{List, [], foldl}
 use mathlib.Core.Path.{_≡_, sym}
 use Rattle.basics.specs.Range.{over, only}
+use Rattle.basics.proofs.Range.{over-none}
 use Rattle.lua51_instruction.specs.Proto.{Proto}
-use Rattle.lua51_function.specs.Function.{lineIn, LinesIn}
+use Rattle.lua51_function.specs.Function.{lineIn, HasLines}
 use Rattle.lua51_lifter.specs.SourceLines.{linesOf, lowest, highest}
 use Rattle.block_lines.specs.Lines.{linesIn}
 
@@ -14,13 +15,13 @@ module _ (ls : List ℕ) (past : ℕ) where
   abbrev pub left : (ℕ → ℕ → ℕ) → ℕ → ℕ → ℕ
   left f x i = foldl f x (linesIn ls i past)
 
+  -- none is left
+  pub none-left : (first : ℕ) → past ≤ first → linesIn ls first past ≡ []
+  none-left first h = over-none (λ i. only (lineIn ls i)) first (past - first) (λ i lt. absurd (omega arith))
+
   pub left-turn : (f : ℕ → ℕ → ℕ) (x i line chosen : ℕ) → i < past → line ≡ lineIn ls i → chosen ≡ f x line → left f chosen (i + 1) ≡ left f x i
   unfolding over
   left-turn f x i line chosen h e c = let k : past - i ≡ suc (past - (i + 1)) = omega arith in rw (k, c, e)
-
-  pub left-none : (f : ℕ → ℕ → ℕ) (x i : ℕ) → past ≤ i → left f x i ≡ x
-  unfolding over
-  left-none f x i h = let k : past - i ≡ 0 = omega arith in rw k
 
   -- the first line and those behind it
   module _ (first line : ℕ) (some : first < past) (e : line ≡ lineIn ls first) where
@@ -35,18 +36,7 @@ module _ (ls : List ℕ) (past : ℕ) where
     unfolding highest over
     highest-left = rw (words, e)
 
-  -- there are none
-  pub lines-none : (first : ℕ) → past ≤ first → linesIn ls first past ≡ []
-  unfolding over
-  lines-none first h = let k : past - first ≡ 0 = omega arith in rw k
-
-module _ (p : Proto) where
-  -- the bytes of a function's word lines have its lines
-  pub lines-read : (ls : List ℕ) → LinesIn p ls → (first past : ℕ) → linesIn ls first past ≡ linesOf p first past
-  unfolding linesOf
-  lines-read ls read first past = λ j. over (λ i. only (sym (read i) j)) first (past - first)
-
-  -- an empty range has none
-  pub no-lines : (n : ℕ) → linesOf p n n ≡ []
-  unfolding linesOf over
-  no-lines n = let k : n - n ≡ 0 = omega arith in rw k
+-- the bytes of a function's word lines have its lines
+pub lines-read : (p : Proto) (ls : List ℕ) → HasLines p ls → (first past : ℕ) → linesIn ls first past ≡ linesOf p first past
+unfolding linesOf
+lines-read p ls read first past = λ j. over (λ i. only (sym (read i) j)) first (past - first)

@@ -6,7 +6,7 @@ use mathlib.Core.Path.{_≡_}
 use Rattle.lua51_instruction.specs.Proto.{Proto, size}
 use Rattle.lua51_deserializer.specs.Chunk.{most-words}
 use Rattle.basics.specs.Range.{over, only}
-use Rattle.lua51_function.specs.Function.{Stands, lineIn, LinesIn}
+use Rattle.lua51_function.specs.Function.{Stands, lineIn, HasLines}
 use Rattle.lua51_function.specs.declared.function.Head.{Head}
 use Rattle.cfg.specs.Graph.{leader, blockOf, diverted, betweenOf}
 use Rattle.cfg_notes.specs.Notes.{notesOf}
@@ -31,7 +31,7 @@ pub record Held (p : Proto) (h : Head) (ws fs us ls : List ℕ) : Type 0 where
   pub few : size p ≤ most-words
   pub kinds : List ℕ
   pub stands : Stands p h ws kinds fs us
-  pub lines : LinesIn p ls
+  pub lines : HasLines p ls
 
 -- the lines of the words from `first` to before `past`, by the bytes of word lines
 abbrev pub linesIn : List ℕ → ℕ → ℕ → List ℕ

@@ -8,7 +8,7 @@ use borrow.Author.Tests.{lt-ltb, le-ltb}
 use Rattle.lua51_instruction.specs.Word.{JMP}
 use Rattle.lua51_instruction.specs.Proto.{Proto, size, is, flowAt}
 use Rattle.lua51_lifter.specs.Check.{tests, headFault, lastFault, operandFault, landsInside, wordVerdict, useVerdict, most-line, lineVerdict, check, Verdict, fine, wrong, refuseIf, _else_, firstRefusal}
-use Rattle.lua51_function.specs.Function.{lineIn, LinesIn}
+use Rattle.lua51_function.specs.Function.{lineIn, HasLines}
 use Rattle.lua51_lifter.specs.Verdict.{verdictOf, Found}
 use Rattle.lua51_lifter.specs.declared.verdict.Verdict as found
 use Rattle.lua51_lifter.specs.declared.verdict.Verdict.the-variants.{Fine, Refused}
@@ -37,7 +37,7 @@ module _ (p : Proto) (i : ℕ) {operands : Bool} (o : operands ≡ operandFault 
 
 -- ------------------------------------------------------------ the line of a word
 
-module _ (p : Proto) (ls : List ℕ) (i line : ℕ) (read : LinesIn p ls) (e : line ≡ lineIn ls i) where
+module _ (p : Proto) (ls : List ℕ) (i line : ℕ) (read : HasLines p ls) (e : line ≡ lineIn ls i) where
   pub line-above : most-line < line → wrong 15 i ≡ lineVerdict p i
   unfolding lineVerdict
   line-above h = rw (read i, ← e, lt-ltb most-line line h)

@@ -6,7 +6,7 @@ ghost use Prim.Native.Nat.{ℕ, _+_, _-_, _/_, _%_, _<_};
 ghost use lib.Dec.{eqb};
 ghost use lib.ListN.{length};
 ghost use Rattle.lua51_instruction.specs.Proto.{Proto, size};
-ghost use Rattle.lua51_function.specs.Function.{Stands, LinesIn};
+ghost use Rattle.lua51_function.specs.Function.{Stands, HasLines};
 ghost use Rattle.lua51_lifter.specs.Check.{headFault, lastFault, wordVerdict, firstRefusal, lineVerdict, check};
 ghost use Rattle.lua51_lifter.specs.Verdict.{verdictOf, Found};
 ghost use Rattle.lua51_uses.specs.Judgement.{checkWords};
@@ -113,7 +113,7 @@ const MOST_LINE: usize = 999999;
 
 // The verdict on the lines of n words: the first that is too high.
 fn lines_verdict(lines: &[u8], n: usize) -> Verdict
-    ensures { λ r. ⌜ ((p : Proto) → LinesIn p (now (lines .entry)) → verdictOf r ≡ firstRefusal (lineVerdict p) 0 n) ⌝ }
+    ensures { λ r. ⌜ ((p : Proto) → HasLines p (now (lines .entry)) → verdictOf r ≡ firstRefusal (lineVerdict p) 0 n) ⌝ }
     ensures anyway { λ r. ⌜ Found 15 15 n (verdictOf r) ⌝ }
 {
     let mut i = 0;
@@ -153,7 +153,7 @@ pub fn check(
     leaders: &mut [u8],
     targets: &mut [u8],
 ) -> Verdict
-    ensures { λ r. ⌜ ((p : Proto) → Stands p head (now (words .entry)) (now (kinds .entry)) (now (nested .entry)) (now (nups .entry)) → LinesIn p (now (lines .entry)) → size p < length (now (leaders .entry)) → size p < length (now (targets .entry)) → verdictOf r ≡ check p) ⌝ }
+    ensures { λ r. ⌜ ((p : Proto) → Stands p head (now (words .entry)) (now (kinds .entry)) (now (nested .entry)) (now (nups .entry)) → HasLines p (now (lines .entry)) → size p < length (now (leaders .entry)) → size p < length (now (targets .entry)) → verdictOf r ≡ check p) ⌝ }
     ensures anyway { λ r. ⌜ Found 7 15 (length (now (words .entry))) (verdictOf r) ⌝ }
 {
     let verdict = check_words(head, words, kinds, nested);

@@ -13,7 +13,7 @@ use Rattle.lua51_deserializer.specs.Chunk.{Place, nowhere, ints, protoAt}
 use Rattle.lua51_value.specs.Bytes.{byteAt, intAt}
 use Rattle.lua51_value.specs.Constant.{within}
 use Rattle.lua51_value.proofs.Ends.{int-past, drop-within}
-use Rattle.lua51_function.specs.Function.{lineIn, LinesIn, part}
+use Rattle.lua51_function.specs.Function.{lineIn, HasLines, part}
 use Rattle.lua51_function.proofs.Buffers.{ints-length, ints-at}
 
 -- bytes that are too few for the line of word i
@@ -84,7 +84,7 @@ module _ (s : List ℕ) (ps : List Place) (f : ℕ) {tail count from past : ℕ}
   pub lines-from : from ≤ past
   lines-from = rw b (within-least s from (4 * count) (rw a (within-most s (tail + 4))))
 
-  pub lines-part : LinesIn (protoAt s ps f) (part s from past)
+  pub lines-part : HasLines (protoAt s ps f) (part s from past)
   unfolding protoAt
   lines-part i =
       let at = getD ps f nowhere .tail in

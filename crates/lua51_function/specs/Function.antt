@@ -17,7 +17,7 @@ use Rattle.lua51_function.specs.declared.function.Head.{Head}
 use Rattle.lua51_function.specs.declared.function.Loaded.{Loaded}
 
 -- p is the function whose head is h, and whose words (ws), kinds of constants (ks), numbers of nested functions (ns) and their
--- counts of upvalues (us) are these. Of its word lines only the count is held: they are read from the chunk's bytes (`LinesIn`).
+-- counts of upvalues (us) are these. Of its word lines only the count is held: they are read from the chunk's bytes (`HasLines`).
 pub record Stands (p : Proto) (h : Head) (ws ks ns us : List ℕ) : Type 0 where
   pub number : p .number ≡ h .number
   pub parameters : p .parameters ≡ h .parameters
@@ -80,8 +80,8 @@ abbrev pub lineIn : List ℕ → ℕ → ℕ
 lineIn ls i = intAt ls (4 * i)
 
 -- ls are the bytes of p's word lines
-abbrev pub LinesIn : Proto → List ℕ → Type 0
-LinesIn p ls = (i : ℕ) → lineAt p i ≡ lineIn ls i
+abbrev pub HasLines : Proto → List ℕ → Type 0
+HasLines p ls = (i : ℕ) → lineAt p i ≡ lineIn ls i
 
 -- the bytes of s from one place to before another
 abbrev pub part : List ℕ → ℕ → ℕ → List ℕ
@@ -117,7 +117,7 @@ pub record Loads (s : List ℕ) (ps : List Place) (f : ℕ) (r : Loaded) (ws ws�
   pub places : placesFrom s (r .first) (r .constants) ≡ constantPlaces s ps f
   pub from : r .lines ≤ r .locals
   pub inside : r .locals ≤ length s
-  pub lines : LinesIn (protoAt s ps f) (part s (r .lines) (r .locals))
+  pub lines : HasLines (protoAt s ps f) (part s (r .lines) (r .locals))
   pub words : Filled (r .words) (length ws) (protoAt s ps f .words) ws ws′
   pub kinds : Filled (r .kinds) (length ks) (protoAt s ps f .kinds) ks ks′
   pub nested : Filled (r .nested) (min (length ns) (length us)) (protoAt s ps f .nested) ns ns′
@@ -180,7 +180,7 @@ pub record Holds (s : List ℕ) (ps : List Place) (f : ℕ) (r : Loaded) (ws ks 
   pub words : length (protoAt s ps f .words) ≡ r .words
   pub nested : length (protoAt s ps f .nested) ≡ r .nested
   pub limits : InLimits (protoAt s ps f)
-  pub lines : LinesIn (protoAt s ps f) (part s (r .lines) (r .locals))
+  pub lines : HasLines (protoAt s ps f) (part s (r .lines) (r .locals))
   pub places : placesFrom s (r .first) (r .constants) ≡ constantPlaces s ps f
   pub constant : (i : ℕ) → i < length (constantPlaces s ps f) → (j : ℕ) × (constant s (getD (constantPlaces s ps f) i 0) ≡ here j)
   pub value : (i : ℕ) → i < length (constantPlaces s ps f) → valueAt s (getD (constantPlaces s ps f) i 0) ≡ getD (constantsAt s ps f) i Nil

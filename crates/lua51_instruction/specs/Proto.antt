@@ -51,7 +51,7 @@ C p i = fieldC (word p i)
 abbrev pub Bx : Proto → ℕ → ℕ
 Bx p i = fieldBx (word p i)
 
--- its source line; 0 'in a function without lines'
+-- the source line of word i; 0 in 'a function without lines' (document 02, 2)
 abbrev pub lineAt : Proto → ℕ → ℕ
 lineAt p i = getD (p .lines) i 0
 

@@ -4,11 +4,12 @@ use Prim.Native.Nat.{ℕ, zero, suc, _+_, _-_, _≤_, _<_, min, max}
 use native.Mathlib.Omega.{arith}
 use mathlib.Core.Path.{_≡_, refl}
 use mathlib.Core.Logic.{_⊎_, inl, inr}
-use mathlib.Core.List.{List, foldl}
+use mathlib.Core.List.{[], foldl}
 use lib.Dec.{eqb, leb, ltb}
 use lib.ListN.{length, List·getD-eq-default}
 use borrow.Author.Tests.{eqb-true, eqb-false, leb-true, leb-false, ltb-true, ltb-false}
 use Rattle.basics.specs.Range.{over, only}
+use Rattle.basics.proofs.Range.{over-none}
 use Rattle.basics.proofs.Tests.{either-way}
 use Rattle.lua51_instruction.specs.Proto.{Proto, lineAt}
 use Rattle.lua51_lifter.specs.Blocks.{Block, kind-code, no-block, codeBlock, entryBlock, betweenBlock, Named, naming, graph, blockAt}
@@ -88,9 +89,13 @@ module _ (p : Proto) where
     abbrev LineIn : ℕ → Type 0
     LineIn x = (i : ℕ) × (first ≤ i) × (i < past) × (lineAt p i ≡ x)
 
+    pub lines-none : past ≤ first → linesOf p first past ≡ []
+    unfolding linesOf
+    lines-none le = over-none (λ i. only (lineAt p i)) first (past - first) (λ i lt. absurd (omega arith))
+
     no-words : past ≤ first → (low ≡ 0) × (high ≡ 0)
-    unfolding linesOf lowest highest over
-    no-words le = let e : past - first ≡ 0 = omega arith in (rw e, rw e)
+    unfolding lowest highest
+    no-words le = (rw (lines-none le), rw (lines-none le))
 
     module _ (some : first < past) where
       words : past - first ≡ suc (past - first - 1)

@@ -22,7 +22,7 @@ no-lines b = []
 unfoldable pub unlinedItems : Proto → List Value → List Item
 unlinedItems p vs = functionItems namedNumbers no-lines p vs (graph p)
 
--- a B line without what it gains 'at the end', and every other line as it is
+-- a B line without what it gains 'at the end': its block, first word, one past the last and kind; and every other line as it is
 unfoldable pub withoutLines : Item → Item
 withoutLines x = item (x .letter) (cond (eqb (x .letter) letter-B) (take 4 (x .numbers)) (x .numbers))
 

@@ -23,7 +23,7 @@ use Rattle.lua51_lifter.specs.Check.{opener, user, check, fine}
 
 -- ------------------------------------------------------------ without the two columns
 
--- 'what document 01 compares': its S line has the numbers of the statement alone
+-- 'what document 01 compares': its S line has the numbers of the statement alone, its B line ends with the kind
 unfoldable pub comparedItems : Proto → List Value → List Item
 comparedItems p vs = functionItems run no-lines p vs (blocks unnamed p)
 

@@ -1,11 +1,11 @@
 -- `sources::span_of`: the lines up to here and those that are left give what all give. Assumes nothing.
 use Prim.Native.Nat.{_-_, _≤_, min, max}
 use native.Mathlib.Omega.{arith}
-use mathlib.Core.Path.{_≡_, refl, sym, _∙_}
+use mathlib.Core.Path.{_≡_, refl, _∙_}
 use borrow.Author.Needs.{needs}
 use Rattle.lua51_lifter.specs.SourceLines.{lowest, highest}
 use Rattle.block_lines.specs.Lines.{linesIn}
-use Rattle.block_lines.proofs.Spans.{left, left-turn, left-none, lowest-left, highest-left, lines-none}
+use Rattle.block_lines.proofs.Spans.{left, none-left, left-turn, lowest-left, highest-left}
 use Rattle.block_lines.proofs.sources.span_of.Statement.{statement}
 use Rattle.block_lines.proofs.sources.span_of.Tie as tie
 
@@ -20,7 +20,7 @@ returns : tie.Need-returns Inv-loop μ-loop
 unfolding lowest highest
 returns c =
     let a = c .before .before .args in
-    rw (lines-none (a .lines .now) (a .past) (a .first) (c .if1 .taken)) (refl, refl)
+    rw (none-left (a .lines .now) (a .past) (a .first) (c .if1 .taken)) (refl, refl)
 
 line-at-requires : tie.Need-line-at-requires Inv-loop μ-loop
 line-at-requires c κs = search needs
@@ -68,10 +68,9 @@ loop-again c =
 returns-2 : tie.Need-returns-2 Inv-loop μ-loop
 returns-2 c =
     let l = c .before in
-    let a = l .before .before .before .before .args in (
-      sym (left-none (a .lines .now) (a .past) min (l .loop .lowest) (l .loop .i) (c .loop-test .left)) ∙ l .loop .inv .1,
-      sym (left-none (a .lines .now) (a .past) max (l .loop .highest) (l .loop .i) (c .loop-test .left)) ∙ l .loop .inv .2,
-    )
+    let a = l .before .before .before .before .args in
+    let none = none-left (a .lines .now) (a .past) (l .loop .i) (c .loop-test .left) in
+    (rw none at (l .loop .inv .1), rw none at (l .loop .inv .2))
 
 pub span-of-spec : {M : Type 1} → statement M
 span-of-spec =

@@ -4,7 +4,7 @@ use native.Mathlib.Omega.{arith}
 use mathlib.Core.Path.{_≡_, refl, sym, _∙_}
 use borrow.Author.Needs.{needs}
 use Rattle.lua51_instruction.specs.Proto.{Proto}
-use Rattle.lua51_function.specs.Function.{LinesIn}
+use Rattle.lua51_function.specs.Function.{HasLines}
 use Rattle.lua51_lifter.specs.Check.{firstRefusal, lineVerdict}
 use Rattle.lua51_lifter.specs.declared.verdict.Verdict.the-variants.{Fine, Refused}
 use Rattle.lua51_lifter.specs.declared.verdict.FunctionFault.the-variants.{Line}
@@ -14,7 +14,7 @@ use Rattle.lua51_checker.proofs.check.lines_verdict.Statement.{statemen
 use Rattle.lua51_checker.proofs.check.lines_verdict.Tie as tie
 
 abbrev Inv-loop : tie.InvT-loop
-Inv-loop lines n i₀ i = (i ≤ n) × ((p : Proto) → LinesIn p lines → firstRefusal (lineVerdict p) i (n - i) ≡ firstRefusal (lineVerdict p) 0 n)
+Inv-loop lines n i₀ i = (i ≤ n) × ((p : Proto) → HasLines p lines → firstRefusal (lineVerdict p) i (n - i) ≡ firstRefusal (lineVerdict p) 0 n)
 
 abbrev μ-loop : tie.MeasureT-loop
 μ-loop lines n i₀ i = n - i
