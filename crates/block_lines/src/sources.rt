@@ -7,7 +7,7 @@ use basics::numbers::{greatest, least};
 use lua51_function::function::line_at;
 
 // The lowest and the highest line of some words.
-#[derive(Drop)]
+#[derive(Clone, Copy)]
 pub struct Span {
     pub lowest: usize,
     pub highest: usize,

@@ -28,7 +28,7 @@ pub struct Edge {
 }
 
 // The edges of a range, in their order.
-#[derive(Drop)]
+#[derive(Clone, Copy)]
 pub enum Edges {
     None,
     One(Edge),

@@ -13,7 +13,7 @@ use lua51_instruction::instruction::{Flow, c_of};
 const MARKED: u8 = 1;
 
 // The leaders that a word makes.
-#[derive(Drop)]
+#[derive(Clone, Copy)]
 enum Claims {
     None,
     One(usize),

@@ -15,7 +15,7 @@ use lua51_deserializer::chunk::Functions;
 use reading::PROGRAM_BUFFER;
 
 // A piece that stands at the output's start: its length, and whether the run ends with it.
-#[derive(Drop)]
+#[derive(Clone, Copy)]
 pub struct Piece {
     pub length: usize,
     pub last: bool,

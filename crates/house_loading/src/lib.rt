@@ -12,7 +12,7 @@ use house_table::OPCODES;
 use lines::numeral::{LINE_LENGTH, Numeral, number_at};
 
 // What is found in the bytes of a table: nothing, or the first fault.
-#[derive(Drop)]
+#[derive(Clone, Copy)]
 pub enum TableVerdict {
     Fine,
     Refused(TableFault),

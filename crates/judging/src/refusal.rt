@@ -33,7 +33,7 @@ pub enum Refusal {
 }
 
 // The numbers of a refusal.
-#[derive(Drop)]
+#[derive(Clone, Copy)]
 pub struct Numbers {
     pub number: usize,
     pub function: usize,

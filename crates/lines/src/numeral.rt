@@ -17,7 +17,7 @@ const BASE: u32 = crate::BASE as u32;
 pub const LINE_LENGTH: usize = COLUMNS + 1;
 
 // What bytes say: a number, or none, since they have another form.
-#[derive(Drop)]
+#[derive(Clone, Copy)]
 pub enum Numeral {
     Number(u32),
     OtherForm,

@@ -14,7 +14,7 @@ use lua51_value::bytes::int_at;
 
 // The functions that have begun, by number; 2,312 bytes. The offsets are kept as u32, which hold every offset of a chunk that is
 // not too long: each level of the walk has three copies of the table on the stack.
-#[derive(Clone, Copy, Drop)]
+#[derive(Clone, Copy)]
 pub struct Functions {
     // where each starts: 1,024 bytes
     pub starts: [u32; 256],
@@ -27,7 +27,7 @@ pub struct Functions {
 }
 
 // How far the walk is, and the functions that have begun.
-#[derive(Drop)]
+#[derive(Clone, Copy)]
 pub struct Walked {
     pub cursor: Cursor,
     pub functions: Functions,

@@ -78,7 +78,7 @@ pub fn sbx_of(word: u32) -> i32
 // ------------------------------------------------------------ jumps
 
 // Where a jump leads: to a word of its function, or outside.
-#[derive(Drop)]
+#[derive(Clone, Copy)]
 pub enum Target {
     To(usize),
     Outside,
@@ -321,7 +321,7 @@ fn row_numbers_of(opcode: u8) -> RowNumbers
 }
 
 // What the table says of an opcode: the kinds of its operands. The kind of Bx or sBx stands under b.
-#[derive(Drop)]
+#[derive(Clone, Copy)]
 pub struct Row {
     pub a: Kind,
     pub b: Kind,
@@ -386,7 +386,7 @@ pub fn fields_of(word: u32) -> Fields
 }
 
 // A decoded word: its fields, and what the table says of them.
-#[derive(Drop)]
+#[derive(Clone, Copy)]
 pub struct Instruction {
     pub fields: Fields,
     pub row: Row,

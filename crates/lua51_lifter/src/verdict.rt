@@ -1,7 +1,7 @@
 // The verdict on a function: refusals 7 to 15.
 
 // What a check finds: nothing, or the first fault.
-#[derive(Drop)]
+#[derive(Clone, Copy)]
 pub enum Verdict {
     Fine,
     Refused(FunctionFault),

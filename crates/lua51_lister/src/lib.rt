@@ -58,7 +58,7 @@ fn pending_behind(words: &[u32], nups: &[u8], i: usize, pending: u8) -> u8
 }
 
 // Where the words of a block end in the output, and how many words behind it are captures.
-#[derive(Drop)]
+#[derive(Clone, Copy)]
 pub struct Body {
     pub at: usize,
     pub pending: u8,

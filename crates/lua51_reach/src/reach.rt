@@ -10,7 +10,7 @@ use basics::slices::word_at;
 use lua51_instruction::instruction::{Flow, Target, c_of, jump_target};
 
 // Where a word leads beside the next one, by its target or its skip.
-#[derive(Drop)]
+#[derive(Clone, Copy)]
 pub enum Reach {
     Nowhere,
     To(usize),

@@ -8,7 +8,7 @@ use lua51_instruction::argument::{RegisterOrConstant, register_or_constant};
 use lua51_instruction::instruction::Fields;
 
 // An expression of two numbers: its kind, and which of that kind.
-#[derive(Drop)]
+#[derive(Clone, Copy)]
 pub struct Leaf {
     pub kind: u32,
     pub number: u32,

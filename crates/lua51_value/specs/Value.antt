@@ -15,8 +15,8 @@ kind_number = 3
 abbrev pub kind_string : ℕ
 kind_string = 4
 
--- 'a constant is nil, a boolean, a 64-bit float, or a string's place and length. A float keeps all its bits': Number has
--- its 64 bits as one number; Text has its bytes 'without the 0'
+-- 'a constant is nil, a boolean, a 64-bit float, or a string's place and length. A float keeps all its bits': `number` has
+-- its 64 bits as one number; `text` has its bytes 'without the 0'
 pub data Value : Type 0 where
   nil : Value
   boolean : ℕ → Value

@@ -26,7 +26,7 @@ pub const KIND_STRING: u8 = 4;
 
 // A constant. A NaN's bits stand beside the other numbers, since a float does not keep them. A string is a place in the
 // chunk and a length, without its last byte, the 0.
-#[derive(Drop)]
+#[derive(Clone, Copy)]
 pub enum Constant {
     Nil,
     Boolean(bool),
@@ -129,7 +129,7 @@ pub fn pattern_of(c: Constant) -> u64
 }
 
 // A number's 64 bits in pieces of 16, as they are printed.
-#[derive(Drop)]
+#[derive(Clone, Copy)]
 pub struct Pieces {
     pub highest: u16,
     pub higher: u16,

@@ -39,12 +39,11 @@ fn write_next(reading: Reading, s: &[u8], functions: Functions, out: &mut [u8]) 
     ensures { outcome_of result out.new ≡ written (reading_of reading) (listing_of (word_back reading.table) s.now reading.next) out.old }
 {
     let table = reading.table;
-    let f = reading.next;
-    let length = write_whole(s, functions, f, table, out);
+    let length = write_whole(s, functions, reading.next, table, out);
     if out.len() < length {
-        return refused(reading, Refusal::OutputShort(f));
+        return refused(reading, Refusal::OutputShort(reading.next));
     }
-    let next = f + 1;
+    let next = reading.next + 1;
     Called {
         answer: Answer::Given(length),
         reading: Reading {
@@ -61,9 +60,8 @@ pub fn deliver(reading: Reading, s: &[u8], out: &mut [u8]) -> Called
     ensures out_after { outcome_of result out.new ≡ delivery (reading_of reading) s.now out.old }
     ensures followed { (m : ℕ) → answer_of result.answer ≡ given m → Printed (word_back reading.table) s.now reading.next m out.new }
 {
-    let f = reading.next;
     if !reading.opened {
-        return refused(reading, Refusal::NotOpened(f));
+        return refused(reading, Refusal::NotOpened(reading.next));
     }
     let table = reading.table;
     let judged = walk_and_judge(s, table);
@@ -71,8 +69,8 @@ pub fn deliver(reading: Reading, s: &[u8], out: &mut [u8]) -> Called
     match answer {
         Answer::Refused(refusal) => refused(reading, refusal),
         Answer::Given(count) => {
-            if count <= f as usize {
-                return refused(reading, Refusal::NoFunction(f));
+            if count <= reading.next as usize {
+                return refused(reading, Refusal::NoFunction(reading.next));
             }
             write_next(reading, s, judged.functions, out)
         }

@@ -18,7 +18,7 @@ pub const PROGRAM_BUFFER: usize = 65536;
 
 // A reading of a chunk: whether it is open, the function whose listing comes next, and the house table. It goes into each call and comes
 // back.
-#[derive(Drop)]
+#[derive(Clone, Copy)]
 pub struct Reading {
     pub opened: bool,
     pub next: u32,
@@ -39,7 +39,7 @@ impl Reading {
 }
 
 // What a call gives, and the reading that it leaves.
-#[derive(Drop)]
+#[derive(Clone, Copy)]
 pub struct Called {
     pub answer: Answer,
     pub reading: Reading,

@@ -7,7 +7,7 @@ use lua51_value::bytes::int_at;
 use std::io::Read;
 
 // What comes of reading one record.
-#[derive(Drop)]
+#[derive(Clone, Copy)]
 pub enum Outcome {
     Agrees,
     Differs,
@@ -15,7 +15,7 @@ pub enum Outcome {
 }
 
 // A number that was to be read from a file.
-#[derive(Drop)]
+#[derive(Clone, Copy)]
 pub enum Next {
     Number(usize),
     Cut, // the file ends inside it

@@ -15,11 +15,11 @@ returns-in-Refused c =
     let d = delivers _ _ _ _ (c.refused-in-Refused.ensures _ ∙ input_refused _ _ _ _ (not-false _ c.if-not-reading.false) j) in
     record { out_after = d.0; followed = d.1 }
 
-pub returns-then-count-f : goal.returns-then-count-f
-returns-then-count-f c =
+pub returns-then-count-reading : goal.returns-then-count-reading
+returns-then-count-reading c =
     let j = judge_given _ _ _ _ c.walk_and_judge-judged.ensures.0 c.in-Given.is in
-    let e = no_function _ _ _ _ (not-false _ c.if-not-reading.false) j c.if-count-f.true in
-    let d = delivers _ _ _ _ (c.refused-then-count-f.ensures _ ∙ e) in
+    let e = no_function _ _ _ _ (not-false _ c.if-not-reading.false) j c.if-count-reading.true in
+    let d = delivers _ _ _ _ (c.refused-then-count-reading.ensures _ ∙ e) in
     record { out_after = d.0; followed = d.1 }
 
 pub write_next-requires : goal.write_next-requires
@@ -27,12 +27,12 @@ write_next-requires c = record {
   count = c.in-Given.count;
   judged = judge_given _ _ _ _ c.walk_and_judge-judged.ensures.0 c.in-Given.is;
   places = c.walk_and_judge-judged.ensures.1;
-  below = c.if-count-f.false;
+  below = c.if-count-reading.false;
 }
 
-pub returns-else-count-f : goal.returns-else-count-f
-returns-else-count-f c =
+pub returns-else-count-reading : goal.returns-else-count-reading
+returns-else-count-reading c =
     let j = judge_given _ _ _ _ c.walk_and_judge-judged.ensures.0 c.in-Given.is in
-    let e = next_written _ _ _ _ (not-false _ c.if-not-reading.false) j c.if-count-f.false in
+    let e = next_written _ _ _ _ (not-false _ c.if-not-reading.false) j c.if-count-reading.false in
     let d = delivers _ _ _ _ (c.write_next.ensures ∙ e) in
     record { out_after = d.0; followed = d.1 }
