@@ -3,10 +3,11 @@
 
 usage: python3 tools/respell.py        at the top of the repository, once, behind the toolchain's own script
 
-A word with a capital inside or with a dash is respelled where the repository itself declares it: definitions, constructors,
-fields, lemmas and the names inside a proof, in specs/, proofs/, contracts, must-fail edits, and between backquotes in the
-documents. What stays: names that a library brings (a `use` line of another library than this repository's), names that the
-toolchain makes (goals, and what follows `c.`, `l.` and `goal.`), functions of src/, and the instructions of Lua (MOVE, ..).
+A word that begins small and has a capital, a dash or the other prime in it is respelled where the repository itself declares it:
+definitions, constructors, fields, lemmas and the names inside a proof; in specs/, proofs/, contracts and must-fail edits, and
+between backquotes in comments and documents. What stays: names that a library brings (a `use` line of another library than this
+repository's), names that the toolchain makes (goals, and what follows `c.`, `l.`, `goal.` or `::`), and what begins with a capital,
+as types, modules and the instructions of Lua (MOVE, ..) do, but for the names in SCOPED.
 Two names that fall together part by EXCEPT, or a lemma that would be spelled as its function gets `_lem`.
 """
 
@@ -15,7 +16,7 @@ import os
 import re
 import sys
 
-# names that would fall together, and names of one or two letters
+# names that would fall together
 EXCEPT = {
     "by-graph": "account_by_graph", "by-words": "account_by_words",
     "callStatement": "statement_of_call", "loopStatement": "statement_of_loop",
@@ -23,7 +24,8 @@ EXCEPT = {
     "openCall": "open_call_numbers",
     "kindNumber": "number_of_kind", "words-at": "words_begin", "values-at": "values_begin", "no-loop": "no_loop",
 }
-# names that mean something else elsewhere: only where they are declared, or imported from the module
+# names that mean something else elsewhere: only where they are declared, or imported from the module. ResultKind is what the
+# toolchain's script makes of RK
 SCOPED = {
     "Rattle.lua51_instruction.specs.Proto": {"A": "arg_a", "B": "arg_b", "C": "arg_c", "Bx": "arg_bx"},
     "Rattle.follow.specs.WordFollower": {"RK": "rk_operand", "ResultKind": "rk_operand"},
@@ -36,8 +38,6 @@ TOP = re.compile("^" + MARKS + r"([^\s:({]+)(?:\s+\{[^}]*\})*\s*:\s+(\S*)")
 INNER = re.compile(r"^\s+(" + MARKS + r")([^\s:({]+)(?:\s+\{[^}]*\})*\s*:\s")
 # behind these a name is the toolchain's, or a variant's of src/
 BEFORE_MADE = re.compile(r"(?<![\w'-])(c|l|goal)\.$|::$")
-
-
 COMMENT = re.compile(r"(?:^|(?<=\s))(?:--(?=\s|-)|//)")
 BACKQUOTED = re.compile(r"`[^`\n]+`")
 
@@ -61,10 +61,6 @@ def read(path):
 
 def without_comments(text):
     return "\n".join("" if l.lstrip().startswith("--") else l for l in text.split("\n"))
-
-
-def to_spell(word):
-    return "-" in word or "′" in word or re.match(r"[a-z][a-z0-9'_]*[A-Z]", word)
 
 
 def imports(text):
