@@ -16,7 +16,6 @@ use Rattle.lua51_value.specs.Value.{Value}
 use Rattle.lua51_deserializer.specs.Chunk.{here, walked, Walk, walk, proto_at, most_words, most_functions}
 use Rattle.lua51_deserializer.specs.Walked.{places_of}
 use Rattle.lua51_deserializer.specs.declared.chunk.Functions.{Functions}
-use Rattle.lua51_deserializer.specs.declared.chunk.Walked.{Walked}
 use Rattle.lua51_deserializer.specs.declared.fields.Cursor.TheVariants.{Here}
 use Rattle.lua51_function.specs.Function.{Stands, held_of, Loads, few_words, Roomy, Holds, part}
 use Rattle.lua51_function.specs.declared.function.Head.{Head}
@@ -37,15 +36,12 @@ use Rattle.listing.specs.Printed.{printed, Lists}
 -- ------------------------------------------------------------ the function
 
 -- it is one of a chunk that was read whole, and buffers with room hold all of it
-module _ {back : ℕ → ℕ} {s : List ℕ} (functions : Functions) {f : ℕ} {r : Loaded} {ws ws' ks ks' ns ns' us us' : List ℕ} (end : ℕ)
-    (e : walked (here end) (places_of functions) ≡ walk s) (below : f < functions.count) where
-  pub holds_function : Loads back s (held_of functions) f r ws ws' ks ks' ns ns' us us'
-      → length (proto_at s (held_of functions) f).words ≤ length ws → most_functions ≤ length ns → most_functions ≤ length us
-      → Holds back s (walk s).places f r ws' ks' ns' us'
-  holds_function loads few n u =
-      let w : Walked = record { cursor = Here end; functions = functions } in
-      let words : length (proto_at s (walk s).places f).words ≤ length ws = rw (held_all s w end e refl) at few in
-      holds_each back s w end f r ws ws' ks ks' ns ns' us us' e refl below loads (record { words = words; nested = n; nups = u })
+pub holds_function : {back : ℕ → ℕ} {s : List ℕ} (functions : Functions) {f : ℕ} {r : Loaded} {ws ws' ks ks' ns ns' us us' : List ℕ}
+    (end : ℕ) → walked (here end) (places_of functions) ≡ walk s → f < functions.count
+    → Loads back s (held_of functions) f r ws ws' ks ks' ns ns' us us' → Roomy (proto_at s (walk s).places f) ws ns us
+    → Holds back s (walk s).places f r ws' ks' ns' us'
+holds_function {back} {s} functions {f} {r} {ws} {ws'} {ks} {ks'} {ns} {ns'} {us} {us'} end e below loads room =
+    holds_each back s (record { cursor = Here end; functions = functions }) end f r ws ws' ks ks' ns ns' us us' e refl below loads room
 
 -- a function of a chunk that was read whole has at most the most words
 pub words_most : (s : List ℕ) (functions : Functions) (f end : ℕ) → walked (here end) (places_of functions) ≡ walk s → f < functions.count
@@ -55,19 +51,20 @@ words_most s functions f end e below =
     let inside : f < length (walk s).places = omega (arith, places_length functions, ap (λ (v : Walk). length v.places) e) in
     rw (held_all s (record { cursor = Here end; functions = functions }) end e refl) ((whole_chunk s end read).limited f inside).words
 
--- buffers for few words, and for the most, have room for it
+-- buffers for its words, for few words, and for the most, have room for it
 module _ (s : List ℕ) (functions : Functions) (f end : ℕ) (e : walked (here end) (places_of functions) ≡ walk s) (below : f < functions.count) (ws ns us : List ℕ) where
+  pub room : length (proto_at s (held_of functions) f).words ≤ length ws → most_functions ≤ length ns → most_functions ≤ length us
+      → Roomy (proto_at s (walk s).places f) ws ns us
+  room fits n u =
+      let words : length (proto_at s (walk s).places f).words ≤ length ws = rw (held_all s (record { cursor = Here end; functions = functions }) end e refl) at fits in
+      record { words = words; nested = n; nups = u }
+
   pub room_few : length (proto_at s (held_of functions) f).words ≤ few_words → few_words ≤ length ws → most_functions ≤ length ns → most_functions ≤ length us
       → Roomy (proto_at s (walk s).places f) ws ns us
-  room_few few w n u =
-      let same : length (proto_at s (walk s).places f).words ≤ few_words = rw (held_all s (record { cursor = Here end; functions = functions }) end e refl) at few in
-      record { words = omega arith; nested = n; nups = u }
+  room_few few w n u = room (omega arith) n u
 
   pub room_most : most_words ≤ length ws → most_functions ≤ length ns → most_functions ≤ length us → Roomy (proto_at s (walk s).places f) ws ns us
-  room_most w n u =
-      let most : length (proto_at s (walk s).places f).words ≤ most_words =
-      rw (held_all s (record { cursor = Here end; functions = functions }) end e refl) at (words_most s functions f end e below) in
-      record { words = omega arith; nested = n; nups = u }
+  room_most w n u = room (omega (arith, words_most s functions f end e below)) n u
 
 -- where nothing in it is refused, it is held
 pub held : {back : ℕ → ℕ} {s : List ℕ} {f : ℕ} {r : Loaded} {ws ks fs us : List ℕ} → Holds back s (walk s).places f r ws ks fs us
