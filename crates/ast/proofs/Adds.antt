@@ -1,13 +1,13 @@
 -- Laws of `adds`: how writers of runs are composed, and what they leave in a buffer. Assumes nothing.
-use Prim.Native.Nat.{ℕ, suc, ◌+◌, ◌≤◌, ◌<◌}
+use Prim.Native.Nat.{ℕ, ◌+◌, ◌≤◌, ◌<◌}
 use mathlib.Core.Path.{◌≡◌, refl, sym, ap, ◌∙◌}
 use mathlib.Core.List.{List, [], ◌∷◌, ◌++◌, append_assoc, append-nil}
 use native.Mathlib.Numerals.{add-one}
 use native.Mathlib.Decide.{dec_lt}
 use native.Mathlib.Omega.{arith}
 use borrow.Author.Tests.{lt-ltb, le-ltb}
-use lib.ListN.{length, take, drop, drop_of_length-le, get_or, set, length-set}
-use lib.Seq.{drop-cons, take-suc-set, take-append-le, take_all, length-take-le}
+use lib.ListN.{length, take, set, length-set}
+use lib.Seq.{take-suc-set, take-append-le, take_all, length-take-le}
 use Rattle.ast.specs.Buffer.{Buffer, buffer, add, adds, Writes}
 
 -- ---- composing
@@ -29,19 +29,6 @@ wrote b xs e = record { numbers = xs; written = e }
 pub adds_none : (b : Buffer) → adds b [] ≡ b
 unfolding adds
 adds_none b = refl
-
-pub adds_cons : (b : Buffer) (n : ℕ) (x : List ℕ) → adds b (n ∷ x) ≡ adds (adds b (n ∷ [])) x
-unfolding adds
-adds_cons b n x = refl
-
--- one turn of a loop that writes the numbers of xs
-pub adds_turn : (b : Buffer) (xs : List ℕ) (i : ℕ) → i < length xs
-    → adds b (drop i xs) ≡ adds (adds b (get_or xs i 0 ∷ [])) (drop (i + 1) xs)
-adds_turn b xs i h = rw (add-one, drop-cons xs i 0) (adds_cons b (get_or xs i 0) (drop (suc i) xs))
-
--- the end of such a loop
-pub adds_done : (b : Buffer) (xs : List ℕ) (i : ℕ) → length xs ≤ i → adds b (drop i xs) ≡ b
-adds_done b xs i h = rw (drop_of_length-le xs h) (adds_none b)
 
 -- ---- what is left
 

@@ -1,14 +1,14 @@
 // A statement as a run of numbers, operator first, in a buffer that the caller lends.
-//
-// A writer takes the buffer and how many of its numbers are used, and gives how many are used after what it wrote. A full buffer
-// takes nothing more.
 #![tactic(auto)]
 
-ghost use Rattle.std.specs.Prelude.{◌≡◌, [], ◌∷◌};
+ghost use Rattle.std.specs.Prelude.{◌≡◌, [], ◌∷◌, take};
 ghost use Rattle.ast.specs.Statement.{[]ᵉ, registers, exprs};
-ghost use Rattle.ast.specs.Buffer.{buffer, adds};
+ghost use Rattle.ast.specs.Buffer.{buffer};
+ghost use Rattle.ast.specs.Written.{Adds};
 
 // ------------------------------------------------------------ the numbers of statements, expressions and operators
+
+// They are plain numbers and no enums, since a run is made of numbers: a writer would turn an enum into its number at each use.
 
 // The number that each kind of statement begins with.
 pub const ASSIGN: u32 = 1;
@@ -83,41 +83,56 @@ pub const NO_TAIL: u32 = 0;
 
 // ------------------------------------------------------------ writers
 
-// Writes one number: stored if the buffer has a place for it.
-pub fn push(run: &mut [u32], used: usize, x: u32) -> usize
-    ensures { buffer run.new result ≡ adds (buffer run.old used) (x ∷ []) }
-{
-    if used < run.len() {
-        run[used] = x;
-        return used + 1;
-    }
-    used
+// A run that is written into a buffer that the caller lends: the buffer, and how many of its numbers are used. A full buffer takes
+// nothing more.
+#[derive(Drop)]
+pub struct Run<'a> {
+    pub numbers: &'a mut [u32],
+    pub used: usize,
 }
 
-// Writes numbers one after the other.
-pub fn push_all(run: &mut [u32], used: usize, numbers: &[u32]) -> usize
-    ensures { buffer run.new result ≡ adds (buffer run.old used) numbers.now }
-{
-    let mut next = used;
-    let mut i = 0;
-    while i < numbers.len() {
-        next = push(run, next, numbers[i]);
-        i += 1;
+impl<'a> Run<'a> {
+    // A run of no numbers.
+    pub fn new(numbers: &'a mut [u32]) -> Run<'a>
+        ensures same { result.numbers.ghost_name ≡ numbers.entry.ghost_name }
+        ensures empty { buffer result.numbers.now result.used ≡ buffer numbers.old 0 }
+    {
+        Run { numbers, used: 0 }
     }
-    next
-}
 
-// Writes the registers of an operand that is several of them, 'a first register and a count': each as an expression.
-pub fn push_registers(run: &mut [u32], used: usize, first: u16, count: u16) -> usize
-    ensures { buffer run.new result ≡ adds (buffer run.old used) (exprs (registers first count []ᵉ)) }
-{
-    let mut next = used;
-    let mut register = first as u32;
-    let mut left = count;
-    while 0 < left {
-        next = push_all(run, next, &[REGISTER, register]);
-        register += 1;
-        left -= 1;
+    // The numbers that were written, as far as the buffer holds them.
+    pub fn as_slice(&self) -> &[u32]
+        ensures { result.now ≡ take self.now.used self.now.numbers.now }
+    {
+        &self.numbers[..self.used.min(self.numbers.len())]
     }
-    next
+
+    // Writes one number: stored if the buffer has a place for it.
+    pub fn push(&mut self, x: u32)
+        ensures { Adds self.old self.new (x ∷ []) }
+    {
+        if self.used < self.numbers.len() {
+            self.numbers[self.used] = x;
+            self.used += 1;
+        }
+    }
+
+    // Writes numbers one after the other.
+    pub fn push_all(&mut self, numbers: &[u32])
+        ensures { Adds self.old self.new numbers.now }
+    {
+        for x in numbers {
+            self.push(*x);
+        }
+    }
+
+    // Writes the registers of an operand that is several of them, 'a first register and a count': each as an expression.
+    pub fn push_registers(&mut self, first: u16, count: u16)
+        ensures { Adds self.old self.new (exprs (registers first count []ᵉ)) }
+    {
+        let first = u32::from(first);
+        for register in first..first + u32::from(count) {
+            self.push_all(&[REGISTER, register]);
+        }
+    }
 }

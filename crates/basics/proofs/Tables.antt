@@ -4,7 +4,8 @@ use native.Mathlib.Omega.{arith}
 use native.Mathlib.Decide.{ℕ_discrete}
 use mathlib.Core.List.{List}
 use mathlib.Core.Path.{◌≡◌, refl, ◌∙◌, sym, ap, subst}
-use lib.ListN.{length, get_or, set}
+use lib.ListN.{length, get_or, set, replicate}
+use Rattle.std.proofs.lemmas.List.{length-replicate, get_or-replicate}
 use lib.Seq.{get_or-set_same, get_or-set_other, ext_get_or}
 use Rattle.basics.specs.Range.{sum, table}
 use Rattle.basics.proofs.Range.{over_at, over_length, sum_split}
@@ -19,6 +20,12 @@ module _ (f : ℕ → ℕ) where
   -- a list that has f's values is the table
   pub tabled : (a : List ℕ) (n : ℕ) → length a ≡ n → ((i : ℕ) → i < length a → get_or a i 0 ≡ f i) → a ≡ table f n
   tabled a n e h = ext_get_or 0 a (table f n) (e ∙ sym (table_length n)) (λ i lt. h i lt ∙ sym (table_at n i (rw e at lt)))
+
+  -- one value everywhere
+  pub replicated : (v : ℕ) (n : ℕ) → ((i : ℕ) → i < n → v ≡ f i) → replicate n v ≡ table f n
+  replicated v n h = tabled (replicate n v) n (length-replicate n v) (λ i lt.
+      let l : i < n = rw (length-replicate n v) at lt in
+      get_or-replicate n i v 0 l ∙ h i l)
 
   -- one entry more
   pub filled_more : (a : List ℕ) (i v : ℕ) → v ≡ f i → i < length a → ((k : ℕ) → k < i → get_or a k 0 ≡ f k) → (k : ℕ) → k < i + 1 → get_or (set a i v) k 0 ≡ f k

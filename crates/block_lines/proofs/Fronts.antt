@@ -5,6 +5,8 @@ use mathlib.Core.Bool.{true, false, not, ◌&&◌}
 use mathlib.Core.List.{List, []}
 use mathlib.Core.Path.{◌≡◌, refl, ◌∙◌, sym}
 use lib.ListN.{get_or}
+use Rattle.std.specs.Option.{option_map_or}
+use Rattle.std.specs.Prelude.{Option, Some, None}
 use borrow.Author.Tests.{eqb-true}
 use Rattle.lua51_instruction.specs.Word.{TESTSET, number_of}
 use Rattle.lua51_instruction.specs.Proto.{Proto, size, opcode, is}
@@ -12,9 +14,9 @@ use Rattle.basics.proofs.Tests.{either_way, and_left, and_right, not_is, or_case
 use Rattle.cfg.specs.Graph.{is_loop, then_of, diverted, entering}
 use Rattle.cfg.proofs.Diverting.{other_then}
 use Rattle.cfg.proofs.Entering.{diverted_many}
-use Rattle.cfg_notes.specs.Notes.{fronted, front_note, notes_of, fronts_in}
+use Rattle.cfg_notes.specs.Notes.{fronted, front_note, notes_of, one_less, fronts_in}
 use Rattle.cfg_notes.proofs.Fronts.{set_fronted, loop_fronted, among_none, among_some}
-use Rattle.cfg_notes.proofs.Parts.{fronts_at}
+use Rattle.cfg_notes.proofs.Parts.{front_said}
 use Rattle.lua51_lifter.specs.Blocks.{Named, naming, brought, front}
 use Rattle.lua51_lifter.proofs.Fronts.{no_front, set_inside, set_front, loop_front}
 
@@ -34,10 +36,9 @@ function_of_lem ws = record {
   names = 0;
 }
 
--- the assignment that a front's note stands for: 0 for none, else 1 more than the word that has it on its Then edge
+-- the assignment that a front's note stands for: that of the word before it, if it names one
 abbrev pub noted : Proto → ℕ → List Named
-noted p zero = []
-noted p (suc i) = brought naming p i
+noted p v = option_map_or (brought naming p) (one_less v) []
 
 module _ (p : Proto) where
   set_then : (i : ℕ) → opcode p i ≡ number_of TESTSET → then_of p i ≡ i + 1
@@ -62,17 +63,13 @@ module _ (p : Proto) where
           (λ j l loop to one. among_none p t (size p) e j l (loop_fronted p j false loop (sym (alone j to one))) to)
       by_note (suc i) e = let at = among_some p t (size p) i e in rw at.to at (front_then i at.below at.fronted)
 
-  -- v is read at the block's first word
-  module _ (ns : List ℕ) (e : ns ≡ notes_of p) (t v : ℕ) (h : v ≡ get_or (fronts_in ns) t 0) (le : t ≤ size p) where
-    here : front naming p t ≡ noted p v
-    here = rw (h, fronts_at p ns e t le) (front_noted t)
+  -- what is read at the block's first word says its front
+  module _ (ns : List ℕ) (e : ns ≡ notes_of p) (t : ℕ) (le : t ≤ size p) {r : Option ℕ} (h : r ≡ one_less (get_or (fronts_in ns) t 0)) where
+    said : front naming p t ≡ option_map_or (brought naming p) r []
+    said = rw (h, front_said p ns e t le) (front_noted t)
 
-    pub front_none : v ≡ 0 → front naming p t ≡ []
-    front_none z = rw z at here
+    pub front_none : r ≡ None → front naming p t ≡ []
+    front_none none = rw none at said
 
-    pub front_some : (v ≡ 0 → ⊥) → front naming p t ≡ brought naming p (v - 1)
-    front_some pos = here ∙ one v pos
-      where
-        one : (v : ℕ) → (v ≡ 0 → ⊥) → noted p v ≡ brought naming p (v - 1)
-        one zero pos = absurd (pos refl)
-        one (suc i) pos = let s : suc i - 1 ≡ i = omega arith in rw s
+    pub front_some : (i : ℕ) → r ≡ Some i → front naming p t ≡ brought naming p i
+    front_some i some = rw some at said

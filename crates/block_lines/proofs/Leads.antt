@@ -3,7 +3,10 @@ use Prim.Native.Nat.{ℕ, ◌+◌, ◌-◌, ◌≤◌, ◌<◌}
 use native.Mathlib.Omega.{arith}
 use mathlib.Core.Bool.{true, false, cond}
 use mathlib.Core.List.{List, [], ◌∷◌, ◌++◌, map, flat_map}
-use mathlib.Core.Path.{◌≡◌, refl, sym}
+use mathlib.Core.Path.{◌≡◌, refl, sym, ◌∙◌}
+use lib.ListN.{get_or}
+use Rattle.std.specs.Option.{unwrap_or}
+use Rattle.std.specs.Prelude.{Option, Some, None}
 use lib.Dec.{ltb, eqb}
 use borrow.Author.Tests.{ltb-true, lt-ltb, eq-eqb, ne_eqb}
 use Rattle.lines.specs.Line.{line, letter_e}
@@ -14,10 +17,10 @@ use Rattle.basics.specs.Range.{only}
 use Rattle.basics.proofs.Range.{times_second}
 use Rattle.basics.proofs.Tests.{either_way}
 use Rattle.cfg.specs.Graph.{Edge, leader, claims, past, leaving, block_of, is_loop, then_of, between_of, diverted}
-use Rattle.cfg.specs.Arrays.{edges_meant}
-use Rattle.cfg.specs.declared.edges.Edges.{Edges}
 use Rattle.cfg.proofs.Leaders.{leader_claimed, past_found}
 use Rattle.cfg.proofs.Diverting.{loop_inside, then_most}
+use Rattle.cfg_notes.specs.Notes.{notes_of, noted, one_less, starts_in, betweens_in}
+use Rattle.cfg_notes.proofs.Parts.{block_said, between_said, given, ungiven}
 use Rattle.lua51_lifter.specs.Check.{check, fine, lands_inside}
 use Rattle.lua51_lifter.specs.Blocks.{leads, edges_of}
 use Rattle.lua51_lifter.specs.Listing.{edge_line}
@@ -98,8 +101,8 @@ then_starts p i h = record { inside = then_most p i h; leads = loop_then p i (lo
 
 module _ (p : Proto) (i : ℕ) where
   -- the edges as the code has them
-  pub edges_are : (r : Edges) → i < size p → edges_meant r ≡ cond (ltb i (size p)) (leaving p i (flow_at p i)) [] → leaving p i (flow_at p i) ≡ edges_meant r
-  edges_are r lt e = sym (rw (lt-ltb i (size p) lt) at e)
+  pub edges_are : (es : List Edge) → i < size p → es ≡ cond (ltb i (size p)) (leaving p i (flow_at p i)) [] → leaving p i (flow_at p i) ≡ es
+  edges_are es lt e = sym (rw (lt-ltb i (size p) lt) at e)
 
   abbrev edge_lines : List ℕ
   edge_lines = flat_map edge_line (map (leads p i) (leaving p i (flow_at p i)))
@@ -136,3 +139,17 @@ module _ (p : Proto) (j : ℕ) where
       let f = past_found p (end_leader p ok) j lt in
       let back : past p j - 1 + 1 ≡ past p j = omega (arith, f.from) in
       rw back f.leads
+
+-- ------------------------------------------------------------ what the notes say of the blocks
+
+module _ (p : Proto) (ns : List ℕ) (e : ns ≡ notes_of p) (i : ℕ) (le : i ≤ size p) where
+  -- the number of the block that starts there
+  pub block_read : leader p i ≡ true → {o : Option ℕ} {r : ℕ} → o ≡ one_less (get_or (starts_in ns) i 0) → r ≡ unwrap_or o 0 → r ≡ block_of p i
+  block_read leads read is = rw (is, read, block_said p ns e i le, leads)
+
+  -- a between block stands on the Then edge there, and its number; or none does
+  pub between_read : {o : Option ℕ} → o ≡ noted (get_or (betweens_in ns) i 0) → {r : ℕ} → o ≡ Some r → (diverted p i ≡ true) × (r ≡ between_of p i)
+  between_read read some = given (diverted p i) (sym some ∙ read ∙ between_said p ns e i le)
+
+  pub no_between_read : {o : Option ℕ} → o ≡ noted (get_or (betweens_in ns) i 0) → o ≡ None → diverted p i ≡ false
+  no_between_read read none = ungiven (diverted p i) (between_of p i) (sym none ∙ read ∙ between_said p ns e i le)

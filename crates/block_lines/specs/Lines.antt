@@ -1,38 +1,57 @@
 -- What the printers of blocks go by: a function in which nothing is refused, what the code holds of it, and the notes of its graph.
-use Rattle.std.specs.Prelude.{ℕ, ◌-◌, ◌≤◌, cond, List, [], ◌≡◌}
+use Rattle.std.specs.Prelude.{ℕ, ◌-◌, ◌≤◌, cond, List, [], ◌∷◌, ◌≡◌}
 use Rattle.lua51_instruction.specs.Proto.{Proto, size}
 use Rattle.lua51_deserializer.specs.Chunk.{most_words}
 use Rattle.basics.specs.Range.{over, only}
-use Rattle.lua51_function.specs.Function.{Stands, line_in, HasLines}
-use Rattle.lua51_function.specs.declared.function.Head.{Head}
+use Rattle.lua51_function.specs.Function.{Shows, line_in, HasLines}
+use Rattle.lua51_function.specs.declared.function.View.{View}
 use Rattle.cfg.specs.Graph.{leader, block_of, diverted, between_of}
 use Rattle.cfg_notes.specs.Notes.{notes_of}
 use Rattle.lua51_lifter.specs.Check.{check, fine}
 use Rattle.lua51_lifter.specs.Blocks.{naming, code_block, between_block}
 use Rattle.lua51_lifter.specs.Listing.{block_line}
+use Rattle.block_lines.specs.declared.blocks.Block.{Block}
+use Rattle.block_lines.specs.declared.blocks.Drawn.{Drawn}
+use Rattle.block_lines.specs.declared.blocks.BlockKind.{BlockKind}
+use Rattle.block_lines.specs.declared.blocks.BlockKind.TheVariants.{Code, Entry, Between}
 
 -- how many numbers a buffer has that holds every run of an accepted function
 abbrev pub run_numbers : ℕ
 run_numbers = 4096
 
--- nothing in p is refused, ws are its words, and ns are the notes of its graph
-pub record Checked (p : Proto) (ws ns : List ℕ) : Type 0 where
-  pub words : p.words ≡ ws
+-- nothing in p is refused, and what is drawn has its words and the notes of its graph
+pub record Checked (p : Proto) (d : Drawn) : Type 0 where
+  pub words : p.words ≡ d.function.words.now
   pub fine : check p ≡ fine
-  pub notes : ns ≡ notes_of p
+  pub notes : d.notes.now ≡ notes_of p
 
--- nothing in p is refused and it is within the limits, and the code holds it: its head, its words, the numbers of its nested
--- functions (fs) and their counts of upvalues (us), and the bytes of its word lines (ls)
-pub record Held (p : Proto) (h : Head) (ws fs us ls : List ℕ) : Type 0 where
+-- nothing in p is refused and it is within the limits, and the code holds it: v is how it is seen (its head, its words, the numbers
+-- of its nested functions and their counts of upvalues), and ls are the bytes of its word lines
+pub record Held (p : Proto) (v : View) (ls : List ℕ) : Type 0 where
   pub fine : check p ≡ fine
   pub few : size p ≤ most_words
   pub kinds : List ℕ
-  pub stands : Stands p h ws kinds fs us
+  pub stands : Shows p kinds v
   pub lines : HasLines p ls
+
+-- the code holds p, and what is drawn is what it holds and the notes of its graph
+pub record Draws (p : Proto) (d : Drawn) : Type 0 where
+  pub held : Held p d.function d.lines.now
+  pub notes : d.notes.now ≡ notes_of p
 
 -- the lines of the words from `first` to before `past`, by the bytes of word lines
 abbrev pub lines_in : List ℕ → ℕ → ℕ → List ℕ
 lines_in ls first past = over (λ i. only (line_in ls i)) first (past - first)
+
+-- the number of a block's kind in its B line
+abbrev pub number_of : BlockKind → ℕ
+number_of Code = 0
+number_of Entry = 1
+number_of Between = 2
+
+-- 'B: block, first, past, kind, lowest line, highest line'
+abbrev pub block_numbers : Block → List ℕ
+block_numbers b = b.number ∷ b.first ∷ b.past ∷ number_of b.kind ∷ b.span.lowest ∷ b.span.highest ∷ []
 
 -- the lines of the block whose range starts at word j, where one does
 unfoldable pub code_lines : Proto → ℕ → List ℕ

@@ -3,7 +3,6 @@ ghost use Rattle.std.specs.Prelude.{◌≡◌};
 ghost use Rattle.lua51_lifter.specs.SourceLines.{lowest, highest};
 ghost use Rattle.block_lines.specs.Lines.{lines_in};
 
-use basics::numbers::{greatest, least};
 use lua51_function::function::line_at;
 
 // The lowest and the highest line of some words.
@@ -28,12 +27,10 @@ pub fn span_of(lines: &[u8], first: usize, past: usize) -> Span
     }
     let mut lowest = line_at(lines, first);
     let mut highest = lowest;
-    let mut i = first + 1;
-    while i < past {
+    for i in first + 1..past {
         let line = line_at(lines, i);
-        lowest = least(lowest, line);
-        highest = greatest(highest, line);
-        i += 1;
+        lowest = lowest.min(line);
+        highest = highest.max(line);
     }
     Span { lowest, highest }
 }

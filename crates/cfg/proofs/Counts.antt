@@ -2,19 +2,17 @@
 use Prim.Native.Nat.{ℕ, zero, suc, ◌+◌, ◌<◌, min}
 use native.Mathlib.Omega.{arith}
 use native.Mathlib.Decide.{ℕ_discrete}
-use mathlib.Core.Bool.{true, false, cond}
 use mathlib.Core.List.{List, [], ◌∷◌}
 use mathlib.Core.Path.{◌≡◌, refl, ap, ◌∙◌}
 use lib.Dec.{eqb, ltb}
-use lib.ListN.{length, get_or, set, length-set}
+use lib.ListN.{length, get_or, set, replicate, length-set}
 use lib.Seq.{get_or-set_same, get_or-set_other}
-use borrow.Author.Tests.{ltb-true, ltb-false, eq-eqb, ne_eqb, lt-ltb}
-use Rattle.lua51_instruction.specs.Proto.{Proto, size, flow_at}
-use Rattle.basics.specs.Range.{sum, over, times, table}
+use borrow.Author.Tests.{ltb-true, ltb-false, eq-eqb, ne_eqb}
+use Rattle.lua51_instruction.specs.Proto.{Proto, size}
+use Rattle.basics.specs.Range.{sum, times, table}
 use Rattle.basics.proofs.Tests.{either_way}
-use Rattle.cfg.specs.declared.edges.Edges.{Edges}
-use Rattle.cfg.specs.Graph.{leaving, exits, entering}
-use Rattle.cfg.specs.Arrays.{bit, leaders, edges_meant, targets, more, one_more, entered, exits_by, entering_by}
+use Rattle.cfg.specs.Graph.{exits, entering}
+use Rattle.cfg.specs.Arrays.{bit, leaders, more, one_more, entered, exits_by, entering_by}
 use Rattle.cfg.proofs.Tables.{bit_few, started_at}
 use Rattle.basics.proofs.Tables.{sum_more, sum_same}
 use Rattle.basics.proofs.Range.{over_same}
@@ -41,12 +39,11 @@ entered_at (u ∷ ts) a t e lt h = entered_at ts b t (e + bit (eqb t u)) (simp l
     go (no d) = rw (ne_eqb t u d, get_or-set_other a u t (one_more (get_or a u 0)) 0 d) (omega arith)
 
 -- an array of 0, and the entry's edge counted in it
-first_none : (n : ℕ) → get_or (table (λ _. 0) n) 0 0 ≡ 0
-unfolding over
+first_none : (n : ℕ) → get_or (replicate {A = ℕ} n 0) 0 0 ≡ 0
 first_none zero = refl
 first_none (suc n) = refl
 
-pub entry_at : (n : ℕ) (a b : List ℕ) → a ≡ table (λ _. 0) n → b ≡ set a 0 (one_more (get_or a 0 0)) → (t : ℕ) → t < n → get_or b t 0 ≡ bit (eqb t 0)
+pub entry_at : (n : ℕ) (a b : List ℕ) → a ≡ replicate n 0 → b ≡ set a 0 (one_more (get_or a 0 0)) → (t : ℕ) → t < n → get_or b t 0 ≡ bit (eqb t 0)
 entry_at n a b cleared put t lt =
     let z : get_or a 0 0 ≡ 0 = rw cleared (first_none n) in
     started_at n t a b cleared (rw z at put) lt
@@ -55,14 +52,6 @@ entry_at n a b cleared put t lt =
 
 module _ (p : Proto) (marks : List ℕ) where
   module _ (i t : ℕ) where
-    -- a word behind which no range starts sends none to another
-    pub exits_none : eqb (get_or marks (i + 1) 0) 1 ≡ false → times t [] ≡ exits_by p marks t i
-    unfolding times
-    exits_none h = rw h
-
-    pub exits_some : (r : Edges) → i < size p → eqb (get_or marks (i + 1) 0) 1 ≡ true → edges_meant r ≡ cond (ltb i (size p)) (leaving p i (flow_at p i)) [] → times t (targets r) ≡ exits_by p marks t i
-    exits_some r lt h e = rw (h, rw (lt-ltb i (size p) lt) at e)
-
     -- the counts of one word more
     pub counts_turn : (ts a : List ℕ) → t < length a → times t ts ≡ exits_by p marks t i → get_or a t 0 ≡ min (bit (eqb t 0) + sum (exits_by p marks t) 0 i) more → get_or (entered ts a) t 0 ≡ min (bit (eqb t 0) + sum (exits_by p marks t) 0 (i + 1)) more
     counts_turn ts a lt e h = entered_at ts a t (bit (eqb t 0) + sum (exits_by p marks t) 0 i) lt h ∙ ap (λ (n : ℕ). min n more) (omega (arith, sum_more (exits_by p marks t) i))

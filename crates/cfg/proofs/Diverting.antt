@@ -4,6 +4,7 @@ use Prim.Native.Nat.{ℕ, ◌+◌, ◌<◌, ◌≤◌, min}
 use native.Mathlib.Omega.{arith}
 use mathlib.Core.Bool.{Bool, true, false, not, cond, ◌||◌}
 use mathlib.Core.List.{List}
+use mathlib.Core.Logic.{◌⊎◌, inl, inr}
 use mathlib.Core.Path.{◌≡◌, refl, sym, ap, ◌∙◌}
 use lib.Dec.{eqb, ltb}
 use borrow.Author.Tests.{ne_eqb, eqb-true, eqb-false, ltb-true, ltb-false}
@@ -56,6 +57,10 @@ not_numeric flows.LoopEntry n = refl
 not_numeric flows.NumericLoop n = absurd (n refl)
 not_numeric flows.GenericLoop n = refl
 not_numeric flows.Exit n = refl
+
+pub some_loop : (f : declared.Flow) → (f ≡ flows.NumericLoop) ⊎ (f ≡ flows.GenericLoop) → true ≡ loops (flow_meant f)
+some_loop f (inl e) = rw e
+some_loop f (inr e) = rw e
 
 pub no_loop : (f : declared.Flow) → (f ≡ flows.NumericLoop → ⊥) → (f ≡ flows.GenericLoop → ⊥) → false ≡ loops (flow_meant f)
 no_loop flows.Straight n g = refl

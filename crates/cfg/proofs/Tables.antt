@@ -7,11 +7,11 @@ use mathlib.Core.List.{List, [], ◌∷◌}
 use mathlib.Core.Path.{◌≡◌, refl, ◌∙◌}
 use mir.Val.{bool_byte}
 use lib.Dec.{eqb, ltb}
-use lib.ListN.{length, get_or, set, length-set}
+use lib.ListN.{length, get_or, set, replicate, length-set}
 use lib.Seq.{get_or-set_same, get_or-set_other}
+use Rattle.std.proofs.lemmas.List.{length-replicate, get_or-replicate}
 use borrow.Author.Tests.{lt-ltb, eq-eqb, ne_eqb}
-use Rattle.basics.specs.Range.{times, table}
-use Rattle.basics.proofs.Tables.{table_at, table_length}
+use Rattle.basics.specs.Range.{times}
 use Rattle.cfg.specs.Arrays.{bit, put_marks}
 
 -- the number that a test is cast to
@@ -24,12 +24,12 @@ bit_few true = omega arith
 bit_few false = omega arith
 
 -- an array of 0 with 1 at its start
-pub started_at : (n j : ℕ) (a b : List ℕ) → a ≡ table (λ _. 0) n → b ≡ set a 0 1 → j < n → get_or b j 0 ≡ bit (eqb j 0)
+pub started_at : (n j : ℕ) (a b : List ℕ) → a ≡ replicate n 0 → b ≡ set a 0 1 → j < n → get_or b j 0 ≡ bit (eqb j 0)
 started_at n j a b cleared put lt = rw (put, cleared) (go (ℕ_discrete j 0))
   where
-    go : Dec (j ≡ 0) → get_or (set (table (λ _. 0) n) 0 1) j 0 ≡ bit (eqb j 0)
-    go (yes e) = rw e (get_or-set_same (table (λ _. 0) n) 0 1 0 (omega (arith, table_length (λ _. 0) n)))
-    go (no d) = rw (ne_eqb j 0 d) (get_or-set_other (table (λ _. 0) n) 0 j 1 0 d ∙ table_at (λ _. 0) n j lt)
+    go : Dec (j ≡ 0) → get_or (set (replicate n 0) 0 1) j 0 ≡ bit (eqb j 0)
+    go (yes e) = rw e (get_or-set_same (replicate n 0) 0 1 0 (omega (arith, length-replicate {A = ℕ} n 0)))
+    go (no d) = rw (ne_eqb j 0 d) (get_or-set_other (replicate n 0) 0 j 1 0 d ∙ get_or-replicate n j 0 0 lt)
 
 either_one : (b : Bool) → cond {A = ℕ} b 1 1 ≡ 1
 either_one true = refl

@@ -4,23 +4,23 @@ use Rattle.basics.specs.Range.{only, sum, times, table}
 use Rattle.lua51_instruction.specs.Proto.{Proto, size, flow_at}
 use Rattle.cfg.specs.Graph.{leader, leaving, entering, is_loop, then_of}
 use Rattle.cfg.specs.Graph as graph
-use Rattle.cfg.specs.declared.marks.Claims.{Claims}
-use Rattle.cfg.specs.declared.marks.Claims.TheVariants as claims
+use Rattle.cfg.specs.declared.few.UpToTwo.{UpToTwo}
+use Rattle.cfg.specs.declared.few.UpToTwo.TheVariants as few
+use Rattle.cfg.specs.declared.edges.EdgeKind.{EdgeKind}
+use Rattle.cfg.specs.declared.edges.EdgeKind.TheVariants.{Plain, Then, Else}
 use Rattle.cfg.specs.declared.edges.Edge.{Edge}
-use Rattle.cfg.specs.declared.edges.Edges.{Edges}
-use Rattle.cfg.specs.declared.edges.Edges.TheVariants as edges
 
 -- 1 for yes, 0 for no
 abbrev pub bit : Bool → ℕ
 bit b = cond b 1 0
 
--- ------------------------------------------------------------ leaders and ranges
+-- the values that one of the code's stands for, in their order
+abbrev pub in_order : {T : Type 0} → UpToTwo T → List T
+in_order few.None = []
+in_order (few.One x) = only x
+in_order (few.Two x y) = x ∷ y ∷ []
 
--- the leaders that a value of the code's stands for
-abbrev pub claimed : Claims → List ℕ
-claimed claims.None = []
-claimed (claims.One j) = only j
-claimed (claims.Two j k) = j ∷ k ∷ []
+-- ------------------------------------------------------------ leaders and ranges
 
 -- an array with 1 at some places more
 unfoldable pub put_marks : List ℕ → List ℕ → List ℕ
@@ -37,17 +37,21 @@ leaders p = table (mark p) (size p + 1)
 
 -- ------------------------------------------------------------ edges
 
+-- the number of an edge's kind: '0 plain, 1 Then, 2 Else'
+abbrev pub kind_number : EdgeKind → ℕ
+kind_number Plain = 0
+kind_number Then = 1
+kind_number Else = 2
+
 -- the edges that values of the code's stand for
 abbrev pub edge_meant : Edge → graph.Edge
-edge_meant e = record { kind = e.kind; to = e.to }
+edge_meant e = record { kind = kind_number e.kind; to = e.to }
 
-abbrev pub edges_meant : Edges → List graph.Edge
-edges_meant edges.None = []
-edges_meant (edges.One e) = only (edge_meant e)
-edges_meant (edges.Two e f) = edge_meant e ∷ edge_meant f ∷ []
+abbrev pub edges_meant : UpToTwo Edge → List graph.Edge
+edges_meant r = map edge_meant (in_order r)
 
 -- the words that they go to
-abbrev pub targets : Edges → List ℕ
+abbrev pub targets : UpToTwo Edge → List ℕ
 targets r = map (λ (e : graph.Edge). e.to) (edges_meant r)
 
 -- edges are counted as none, one and more

@@ -3,43 +3,51 @@ ghost use Rattle.std.specs.Prelude.{◌≡◌, ℕ, ◌+◌, ◌<◌, min, cond,
 ghost use Rattle.basics.specs.Range.{only, times, table};
 ghost use Rattle.lua51_instruction.specs.Proto.{Proto, size, flow_at};
 ghost use Rattle.cfg.specs.Graph.{plain_edge, then_edge, else_edge, leaving};
-ghost use Rattle.cfg.specs.Arrays.{edges_meant, targets, more, one_more, entered, exits_by, entering_by};
+ghost use Rattle.cfg.specs.Arrays.{kind_number, edges_meant, targets, more, one_more, entered, exits_by, entering_by};
 
+use crate::few::UpToTwo;
 use crate::flow::{flow_of, landing};
 use crate::marks::marked;
-use basics::slices::clear_bytes;
 use lua51_instruction::instruction::{Flow, c_of};
 
-// The kinds of edges.
-pub const PLAIN: u8 = 0;
+// The kinds of edges, with their numbers.
+#[derive(Clone, Copy, PartialEq, Eq, Debug)]
+pub enum EdgeKind {
+    Plain = 0,
+    Then = 1,
+    Else = 2,
+}
 
-pub const THEN: u8 = 1;
+// The number of a kind.
+impl From<EdgeKind> for u8 {
+    ghost from_gives = { λ kind number. number ≡ kind_number kind };
 
-pub const ELSE: u8 = 2;
+    fn from(kind: EdgeKind) -> u8 {
+        kind as u8
+    }
+}
 
 // The count of the edges that enter a block where they are more than one.
 const MORE: u8 = 2;
 
 // An edge: its kind, and the word that it goes to.
-#[derive(Clone, Copy)]
+#[derive(Clone, Copy, PartialEq, Eq, Debug)]
 pub struct Edge {
-    pub kind: u8,
+    pub kind: EdgeKind,
     pub to: usize,
 }
 
 // The edges of a range, in their order.
-#[derive(Clone, Copy)]
-pub enum Edges {
-    None,
-    One(Edge),
-    Two(Edge, Edge),
-}
+pub type Edges = UpToTwo<Edge>;
 
 // A single edge.
 fn plain(to: usize) -> Edges
     ensures { edges_meant result ≡ only (plain_edge to) }
 {
-    Edges::One(Edge { kind: PLAIN, to })
+    Edges::One(Edge {
+        kind: EdgeKind::Plain,
+        to,
+    })
 }
 
 // The edges of a test.
@@ -48,14 +56,18 @@ fn branch(yes: usize, no: usize) -> Edges
 {
     Edges::Two(
         Edge {
-            kind: THEN,
+            kind: EdgeKind::Then,
             to: yes,
         },
-        Edge { kind: ELSE, to: no },
+        Edge {
+            kind: EdgeKind::Else,
+            to: no,
+        },
     )
 }
 
 // The edges of a range whose last word is i; none where there is no such word.
+#[tactic(auto, unfolding(crate::specs::Graph::leaving))]
 pub fn edges_at(words: &[u32], i: usize) -> Edges
     ensures { (p : Proto) → p.words ≡ words.now → edges_meant result ≡ cond (ltb i (size p)) (leaving p i (flow_at p i)) [] }
 {
@@ -63,8 +75,7 @@ pub fn edges_at(words: &[u32], i: usize) -> Edges
         return Edges::None;
     }
     let word = words[i];
-    let flow = flow_of(word);
-    match flow {
+    match flow_of(word) {
         Flow::Straight => plain(i + 1),
         Flow::Skip => {
             if c_of(word) == 0 {
@@ -72,17 +83,15 @@ pub fn edges_at(words: &[u32], i: usize) -> Edges
             }
             plain(i + 2)
         }
-        Flow::Jump => plain(landing(words, i)),
-        Flow::Test => branch(i + 1, i + 2),
-        Flow::TestSet => branch(i + 1, i + 2),
-        Flow::LoopEntry => plain(landing(words, i)),
+        Flow::Jump | Flow::LoopEntry => plain(landing(words, i)),
+        Flow::Test | Flow::TestSet | Flow::GenericLoop => branch(i + 1, i + 2),
         Flow::NumericLoop => branch(landing(words, i), i + 1),
-        Flow::GenericLoop => branch(i + 1, i + 2),
         Flow::Exit => Edges::None,
     }
 }
 
 // The edges that leave word i for another range: none where the next word starts none.
+#[tactic(auto, unfolding(basics::specs::Range::times))]
 fn exits_at(words: &[u32], marks: &[u8], i: usize) -> Edges
     requires { i < length words.now }
     ensures { (p : Proto) → p.words ≡ words.now → (t : ℕ) → times t (targets result) ≡ exits_by p marks.now t i }
@@ -97,16 +106,13 @@ fn exits_at(words: &[u32], marks: &[u8], i: usize) -> Edges
 fn enter(counts: &mut [u8], to: usize)
     ensures { counts.new ≡ set counts.old to (one_more (get_or counts.old to 0)) }
 {
-    if counts.len() <= to {
-        return;
-    }
-    let count = counts[to];
-    if count < MORE {
-        counts[to] = count + 1;
+    if to < counts.len() && counts[to] < MORE {
+        counts[to] += 1;
     }
 }
 
 // Counts each of some edges at the word that it goes to.
+#[tactic(auto, unfolding(crate::specs::Arrays::entered))]
 fn enter_all(counts: &mut [u8], edges: Edges)
     ensures { counts.new ≡ entered (targets edges) counts.old }
 {
@@ -124,11 +130,9 @@ fn enter_all(counts: &mut [u8], edges: Edges)
 pub fn count_entering(words: &[u32], marks: &[u8], counts: &mut [u8])
     ensures { (p : Proto) → p.words ≡ words.now → counts.new ≡ table (λ t. min (entering_by p marks.now t) more) (length counts.old) }
 {
-    clear_bytes(counts);
+    counts.fill(0);
     enter(counts, 0);
-    let mut i = 0;
-    while i < words.len() {
+    for i in 0..words.len() {
         enter_all(counts, exits_at(words, marks, i));
-        i += 1;
     }
 }

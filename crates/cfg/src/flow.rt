@@ -4,9 +4,9 @@ ghost use Rattle.lua51_instruction.specs.Word.{field_opcode, row_of};
 ghost use Rattle.lua51_instruction.specs.Instruction.{flow_meant};
 ghost use Rattle.lua51_instruction.specs.Proto.{Proto, target};
 
-use basics::slices::word_at;
+use basics::slices::at_or;
 use lua51_instruction::instruction;
-use lua51_instruction::instruction::{Flow, Target, jump_target, opcode_of};
+use lua51_instruction::instruction::{Flow, jump_target, opcode_of};
 
 // Where control goes behind a word.
 pub fn flow_of(word: u32) -> Flow
@@ -20,8 +20,5 @@ pub fn landing(words: &[u32], i: usize) -> usize
     ensures { (p : Proto) → p.words ≡ words.now → result ≡ target p i }
 {
     let n = words.len();
-    match jump_target(i, n, word_at(words, i)) {
-        Target::To(t) => t,
-        Target::Outside => n,
-    }
+    jump_target(i, n, at_or(words, i, 0)).unwrap_or(n)
 }

@@ -3,31 +3,27 @@ ghost use Rattle.std.specs.Prelude.{◌≡◌, ◌<◌, eqb, length, get_or, set
 ghost use Rattle.lua51_instruction.specs.Proto.{Proto, flow_at};
 ghost use Rattle.cfg.specs.Graph.{claims};
 ghost use Rattle.basics.specs.Range.{table};
-ghost use Rattle.cfg.specs.Arrays.{mark, claimed, put_marks};
+ghost use Rattle.cfg.specs.Arrays.{mark, in_order, put_marks};
 
+use crate::few::UpToTwo;
 use crate::flow::{flow_of, landing};
-use basics::slices::{byte_at, clear_bytes};
+use basics::slices::at_or;
 use lua51_instruction::instruction::{Flow, c_of};
 
 // The mark of a word; every other word has 0.
 const MARKED: u8 = 1;
 
 // The leaders that a word makes.
-#[derive(Clone, Copy)]
-enum Claims {
-    None,
-    One(usize),
-    Two(usize, usize),
-}
+type Claims = UpToTwo<usize>;
 
 // The leaders that word i makes.
+#[tactic(auto, unfolding(crate::specs::Graph::claims))]
 fn claims_at(words: &[u32], i: usize) -> Claims
     requires { i < length words.now }
-    ensures { (p : Proto) → p.words ≡ words.now → claimed result ≡ claims p i (flow_at p i) }
+    ensures { (p : Proto) → p.words ≡ words.now → in_order result ≡ claims p i (flow_at p i) }
 {
     let word = words[i];
-    let flow = flow_of(word);
-    match flow {
+    match flow_of(word) {
         Flow::Straight => Claims::None,
         Flow::Skip => {
             if c_of(word) == 0 {
@@ -35,17 +31,13 @@ fn claims_at(words: &[u32], i: usize) -> Claims
             }
             Claims::Two(i + 1, i + 2)
         }
-        Flow::Jump => Claims::Two(i + 1, landing(words, i)),
-        Flow::Test => Claims::Two(i + 1, i + 2),
-        Flow::TestSet => Claims::Two(i + 1, i + 2),
-        Flow::LoopEntry => Claims::Two(i + 1, landing(words, i)),
-        Flow::NumericLoop => Claims::Two(i + 1, landing(words, i)),
-        Flow::GenericLoop => Claims::Two(i + 1, i + 2),
+        Flow::Jump | Flow::LoopEntry | Flow::NumericLoop => Claims::Two(i + 1, landing(words, i)),
+        Flow::Test | Flow::TestSet | Flow::GenericLoop => Claims::Two(i + 1, i + 2),
         Flow::Exit => Claims::One(i + 1),
     }
 }
 
-// Marks word j, where it is inside.
+// Marks word j, where it is inside. (By `get_mut` it got no proof: std says nothing of the slice behind it.)
 pub fn put_mark(marks: &mut [u8], j: usize)
     ensures { marks.new ≡ set marks.old j 1 }
 {
@@ -55,8 +47,9 @@ pub fn put_mark(marks: &mut [u8], j: usize)
 }
 
 // Marks the words that a word makes leaders.
+#[tactic(auto, unfolding(crate::specs::Arrays::put_marks))]
 fn put_claims(marks: &mut [u8], made: Claims)
-    ensures { marks.new ≡ put_marks (claimed made) marks.old }
+    ensures { marks.new ≡ put_marks (in_order made) marks.old }
 {
     match made {
         Claims::None => {}
@@ -73,12 +66,10 @@ fn put_claims(marks: &mut [u8], made: Claims)
 pub fn mark_leaders(words: &[u32], marks: &mut [u8])
     ensures { (p : Proto) → p.words ≡ words.now → marks.new ≡ table (mark p) (length marks.old) }
 {
-    clear_bytes(marks);
+    marks.fill(0);
     put_mark(marks, 0);
-    let mut i = 0;
-    while i < words.len() {
+    for i in 0..words.len() {
         put_claims(marks, claims_at(words, i));
-        i += 1;
     }
 }
 
@@ -86,5 +77,5 @@ pub fn mark_leaders(words: &[u32], marks: &mut [u8])
 pub fn marked(marks: &[u8], j: usize) -> bool
     ensures { result ≡ eqb (get_or marks.now j 0) 1 }
 {
-    byte_at(marks, j) == MARKED
+    at_or(marks, j, 0) == MARKED
 }

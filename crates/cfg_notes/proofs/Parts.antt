@@ -1,10 +1,12 @@
 -- The parts of the notes, and what they say at a word. Assumes nothing.
-use Prim.Native.Nat.{ℕ, ◌+◌, ◌-◌, ◌*◌, ◌≤◌, ◌<◌, min}
+use native.Mathlib.Numerals.{add-one}
+use Rattle.std.specs.Prelude.{Some, None}
+use Prim.Native.Nat.{ℕ, zero, suc, ◌+◌, ◌-◌, ◌*◌, ◌≤◌, ◌<◌, min}
 use native.Mathlib.Omega.{arith}
-use mathlib.Core.Bool.{true, false}
+use mathlib.Core.Bool.{Bool, true, false, cond}
 use mathlib.Core.List.{List, [], ◌++◌, append-nil, append_assoc}
-use mathlib.Core.Path.{◌≡◌, ◌∙◌, sym, ap}
-use lib.ListN.{length, get_or, take, drop, length-append, length-take, length-drop, drop_of_length-le, get_or-append, get_or-eq_default}
+use mathlib.Core.Path.{◌≡◌, ◌∙◌, sym, ap, refl}
+use lib.ListN.{length, get_or, take, drop, length-append, length-take, length-drop, drop_of_length-le, get_or-append}
 use lib.Seq.{get_or-take, get_or-drop, get_or-append-add, take_at, drop_at}
 use Rattle.basics.specs.Range.{table}
 use Rattle.basics.proofs.Tables.{table_at, table_length}
@@ -13,8 +15,27 @@ use Rattle.lua51_instruction.specs.Proto.{Proto, size}
 use Rattle.cfg.specs.Graph.{leader, block_of, entry_of, diverted, between_of}
 use Rattle.cfg.specs.Arrays.{mark, leaders, more, entering_by, entrances}
 use Rattle.cfg.proofs.Counts.{counts_by}
-use Rattle.cfg_notes.specs.Notes.{start_note, between_note, front_note, notes_of, third, starts_in, betweens_in, fronts_in}
+use Rattle.cfg_notes.specs.Notes.{start_note, between_note, front_note, notes_of, noted, one_less, third, starts_in, betweens_in, fronts_in}
 use Rattle.cfg_notes.proofs.Numbering.{block_next}
+
+-- a value is given, and so the test holds and the value is that; none is, and it does not
+pub given : (b : Bool) {x v : ℕ} → Some x ≡ cond b (Some v) None → (b ≡ true) × (x ≡ v)
+given true e = (refl, cc)
+given false e = cc
+
+pub ungiven : (b : Bool) (v : ℕ) → None ≡ cond b (Some v) None → b ≡ false
+ungiven true v e = cc
+ungiven false v e = refl
+
+-- a note above 0 is read as it stands
+noted_some : (v : ℕ) → 0 < v → noted v ≡ Some v
+noted_some zero h = absurd (omega arith)
+noted_some (suc v) h = refl
+
+-- a between block's number is above 0
+between_above : (p : Proto) (i : ℕ) → 0 < between_of p i
+unfolding between_of
+between_above p i = omega arith
 
 module _ (ns : List ℕ) where
   -- number j of each part, and none behind its last
@@ -26,11 +47,6 @@ module _ (ns : List ℕ) where
 
   pub front_in : (t : ℕ) → t < third ns → get_or ns (third ns + third ns + t) 0 ≡ get_or (fronts_in ns) t 0
   front_in t lt = sym (get_or-take (third ns) (drop (third ns + third ns) ns) t 0 lt ∙ get_or-drop (third ns + third ns) ns t 0)
-
-  pub none_in : (xs : List ℕ) (j : ℕ) → third ns ≤ j → 0 ≡ get_or (take (third ns) xs) j 0
-  none_in xs j le =
-      let short : length (take (third ns) xs) ≤ j = rw (length-take (third ns) xs) (omega arith) in
-      sym (get_or-eq_default (take (third ns) xs) 0 short)
 
 module _ (p : Proto) where
   abbrev part : (ℕ → ℕ) → List ℕ
@@ -83,24 +99,26 @@ module _ (p : Proto) where
     pub starts_none : (j r : ℕ) → r ≡ get_or (starts_in ns) j 0 → j ≤ size p → r ≡ 0 → leader p j ≡ false
     starts_none j r h le none = either_way (leader p j) (λ t. absurd (omega (arith, rw t at (sym none ∙ h ∙ starts_at j le)))) (λ t. t)
 
-    -- its number is 1 less
-    pub block_is : (j r : ℕ) → r ≡ get_or (starts_in ns) j 0 - 1 → j ≤ size p → leader p j ≡ true → r ≡ block_of p j
-    block_is j r h le t = omega (arith, rw t at (starts_at j le))
+    -- what is read there as an Option: 1 more than the block's number, the block's number, the between block's, the word before
+    pub start_said : (j : ℕ) → j ≤ size p → noted (get_or (starts_in ns) j 0) ≡ cond (leader p j) (Some (block_of p j + 1)) None
+    start_said j le = rw (starts_at j le) (either_way (leader p j) (λ t. rw (t, add-one (block_of p j))) (λ t. rw t))
+
+    pub block_said : (j : ℕ) → j ≤ size p → one_less (get_or (starts_in ns) j 0) ≡ cond (leader p j) (Some (block_of p j)) None
+    block_said j le = rw (starts_at j le) (either_way (leader p j) (λ t. rw (t, add-one (block_of p j))) (λ t. rw t))
+
+    pub between_said : (i : ℕ) → i ≤ size p → noted (get_or (betweens_in ns) i 0) ≡ cond (diverted p i) (Some (between_of p i)) None
+    between_said i le = rw (betweens_at i le) (either_way (diverted p i)
+        (λ t. rw t (noted_some (between_of p i) (between_above p i)))
+        (λ t. rw t))
+
+    pub front_said : (t : ℕ) → t ≤ size p → one_less (get_or (fronts_in ns) t 0) ≡ one_less (front_note p t)
+    front_said t le = ap one_less (fronts_at t le)
 
     -- the block at n is the last code block, and the entry follows it
-    pub entry_is : (r : ℕ) → r ≡ get_or (starts_in ns) (size p) 0 → leader p (size p) ≡ true → r ≡ entry_of p
-    entry_is r h t = omega (arith, rw t at (starts_at (size p) (omega arith)), rw t at (block_next p (size p)))
-
-    -- the loop there has a between block where r is not 0
-    pub between_some : (i r : ℕ) → r ≡ get_or (betweens_in ns) i 0 → i ≤ size p → (r ≡ 0 → ⊥) → diverted p i ≡ true
-    between_some i r h le some = either_way (diverted p i) (λ t. t) (λ t. absurd (some (h ∙ betweens_at i le ∙ rw t)))
-
-    pub between_none : (i r : ℕ) → r ≡ get_or (betweens_in ns) i 0 → i ≤ size p → r ≡ 0 → diverted p i ≡ false
-    unfolding between_of
-    between_none i r h le none = either_way (diverted p i) (λ t. absurd (omega (arith, rw t at (sym none ∙ h ∙ betweens_at i le)))) (λ t. t)
-
-    pub between_is : (i r : ℕ) → r ≡ get_or (betweens_in ns) i 0 → i ≤ size p → diverted p i ≡ true → r ≡ between_of p i
-    between_is i r h le t = h ∙ betweens_at i le ∙ rw t
+    pub entry_said : leader p (size p) ≡ true → noted (get_or (starts_in ns) (size p) 0) ≡ Some (entry_of p)
+    entry_said t =
+        let next : block_of p (size p) + 1 ≡ entry_of p = omega (arith, rw t at (block_next p (size p))) in
+        start_said (size p) (omega arith) ∙ rw (t, next)
 
   -- ------------------------------------------------------------ the parts put together
 

@@ -1,5 +1,5 @@
 -- What a printer needs of a function's graph, noted once at each word from 0 to n, in one array of three parts.
-use Rattle.std.specs.Prelude.{ℕ, zero, suc, ◌+◌, ◌/◌, Bool, not, cond, ◌&&◌, ◌||◌, List, ◌++◌, eqb, length, take, drop}
+use Rattle.std.specs.Prelude.{ℕ, zero, suc, ◌+◌, ◌/◌, Option, Some, None, Bool, not, cond, ◌&&◌, ◌||◌, List, ◌++◌, eqb, length, take, drop}
 use Rattle.basics.specs.Range.{table}
 use Rattle.lua51_instruction.specs.Word.{TESTSET}
 use Rattle.lua51_instruction.specs.Proto.{Proto, size, is}
@@ -50,3 +50,12 @@ betweens_in ns = take (third ns) (drop (third ns) ns)
 
 abbrev pub fronts_in : List ℕ → List ℕ
 fronts_in ns = take (third ns) (drop (third ns + third ns) ns)
+
+-- what a note says: its number, or, of one that is 1 more than a number, that number; none where it is 0
+abbrev pub noted : ℕ → Option ℕ
+noted zero = None
+noted (suc n) = Some (suc n)
+
+abbrev pub one_less : ℕ → Option ℕ
+one_less zero = None
+one_less (suc n) = Some n

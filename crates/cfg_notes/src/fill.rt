@@ -7,22 +7,12 @@ ghost use Rattle.cfg.specs.Graph.{entry_of, then_of};
 ghost use Rattle.cfg.specs.Arrays.{leaders, entrances};
 ghost use Rattle.cfg_notes.specs.Notes.{start_note, between_note, fronted, front_note, notes_of};
 
-use basics::slices::{clear_shorts, word_at};
+use basics::slices::at_or;
 use cfg::betweens::{is_diverted, is_loop, then_of};
 use cfg::edges::count_entering;
 use cfg::marks::{mark_leaders, marked};
 use lua51_instruction::instruction::opcode_of;
 use lua51_instruction::op::TESTSET;
-
-// A number where it is to be noted, else 0.
-fn note(is_noted: bool, number: u16) -> u16
-    ensures { result ≡ cond is_noted number 0 }
-{
-    if is_noted {
-        return number;
-    }
-    0
-}
 
 // Notes the blocks that start: they are numbered ascending, from 0 on. Gives the number of the first between block: the entry
 // follows the code blocks, and the betweens the entry.
@@ -34,12 +24,13 @@ fn note_starts(marks: &[u8], starts: &mut [u16]) -> u16
     ensures few { result ≤ length starts.old + 1 }
 {
     let mut next: u16 = 1;
-    let mut j = 0;
-    while j < starts.len() {
-        let starts_here = marked(marks, j);
-        starts[j] = note(starts_here, next);
-        next += starts_here as u16;
-        j += 1;
+    for (j, start) in starts.iter_mut().enumerate() {
+        if marked(marks, j) {
+            *start = next;
+            next += 1;
+        } else {
+            *start = 0;
+        }
     }
     next
 }
@@ -52,12 +43,13 @@ fn note_betweens(words: &[u32], counts: &[u8], first: u16, betweens: &mut [u16])
         → betweens.new ≡ table (between_note p) (length betweens.old) }
 {
     let mut next = first;
-    let mut i = 0;
-    while i < betweens.len() {
-        let between = is_diverted(words, counts, i);
-        betweens[i] = note(between, next);
-        next += between as u16;
-        i += 1;
+    for (i, between) in betweens.iter_mut().enumerate() {
+        if is_diverted(words, counts, i) {
+            *between = next;
+            next += 1;
+        } else {
+            *between = 0;
+        }
     }
 }
 
@@ -65,14 +57,11 @@ fn note_betweens(words: &[u32], counts: &[u8], first: u16, betweens: &mut [u16])
 fn is_fronted(words: &[u32], counts: &[u8], i: usize) -> bool
     ensures { (p : Proto) → p.words ≡ words.now → counts.now ≡ entrances p → result ≡ fronted p i }
 {
-    let word = word_at(words, i);
+    let word = at_or(words, i, 0);
     if opcode_of(word) == TESTSET {
         return true;
     }
-    if !is_loop(word) {
-        return false;
-    }
-    !is_diverted(words, counts, i)
+    is_loop(word) && !is_diverted(words, counts, i)
 }
 
 // Notes word i, where its assignment stands at the front of a block.
@@ -97,11 +86,9 @@ fn note_fronts(words: &[u32], counts: &[u8], fronts: &mut [u16])
     ensures { (p : Proto) → p.words ≡ words.now → counts.now ≡ entrances p
         → fronts.new ≡ table (front_note p) (length fronts.old) }
 {
-    clear_shorts(fronts);
-    let mut i = 0;
-    while i < words.len() {
+    fronts.fill(0);
+    for i in 0..words.len() {
         note_front(words, counts, fronts, i);
-        i += 1;
     }
 }
 

@@ -5,13 +5,11 @@
 ghost use Rattle.std.specs.Prelude.{◌≡◌, ◌+◌, ◌-◌, ◌*◌, ◌<◌, ◌≤◌, length, get_or};
 ghost use Rattle.lua51_instruction.specs.Proto.{Proto, size};
 ghost use Rattle.lua51_deserializer.specs.Chunk.{most_words};
-ghost use Rattle.lua51_function.specs.Function.{few_words};
 ghost use Rattle.cfg.specs.Graph.{past};
-ghost use Rattle.cfg_notes.specs.Notes.{notes_of, third, starts_in, betweens_in, fronts_in};
+ghost use Rattle.cfg_notes.specs.Notes.{notes_of, noted, one_less, third, starts_in, betweens_in, fronts_in};
 
 use crate::fill::fill;
-use basics::numbers::before;
-use basics::slices::short_at;
+use basics::slices::at_or;
 use lua51_function::function::{FEW_MARKS, FEW_WORDS, MOST_MARKS, MOST_WORDS};
 
 // How many parts the array has.
@@ -22,27 +20,16 @@ pub const MOST_NOTES: usize = PARTS * MOST_MARKS;
 
 pub const FEW_NOTES: usize = PARTS * FEW_MARKS;
 
-// Notes the graph of a function of at most 256 words. The marks and the counts have room for no more.
-fn note_small(words: &[u32], notes: &mut [u16])
-    requires words_len_bound { length words.now ≤ few_words }
+// Notes the graph of a function, with room for N marks and counts.
+fn note_with<const N: usize>(words: &[u32], notes: &mut [u16])
+    requires room { length words.now < N }
+    requires few { N ≤ most_words + 1 }
     requires notes_len { length notes.old ≡ 3 * (length words.now + 1) }
     ensures { (p : Proto) → p.words ≡ words.now → notes.new ≡ notes_of p }
 {
     let past = words.len() + 1;
-    let mut marks = [0u8; FEW_MARKS];
-    let mut counts = [0u8; FEW_MARKS];
-    fill(words, &mut marks[..past], &mut counts[..past], notes);
-}
-
-// The same for a function of at most 8,192 words.
-fn note_large(words: &[u32], notes: &mut [u16])
-    requires words_len_bound { length words.now ≤ most_words }
-    requires notes_len { length notes.old ≡ 3 * (length words.now + 1) }
-    ensures { (p : Proto) → p.words ≡ words.now → notes.new ≡ notes_of p }
-{
-    let past = words.len() + 1;
-    let mut marks = [0u8; MOST_MARKS];
-    let mut counts = [0u8; MOST_MARKS];
+    let mut marks = [0u8; N];
+    let mut counts = [0u8; N];
     fill(words, &mut marks[..past], &mut counts[..past], notes);
 }
 
@@ -54,57 +41,55 @@ pub fn note_graph(words: &[u32], notes: &mut [u16])
     ensures anyway { length notes.new ≡ length notes.old }
 {
     let n = words.len();
-    if MOST_WORDS < n {
-        return;
-    }
-    if notes.len() != PARTS * (n + 1) {
+    if MOST_WORDS < n || notes.len() != PARTS * (n + 1) {
         return;
     }
     if n <= FEW_WORDS {
-        note_small(words, notes);
-        return;
+        note_with::<FEW_MARKS>(words, notes);
+    } else {
+        note_with::<MOST_MARKS>(words, notes);
     }
-    note_large(words, notes);
 }
 
-// 1 more than the number of the block whose range starts at word j, or 0.
-pub fn start_at(notes: &[u16], j: usize) -> usize
-    ensures { result ≡ get_or (starts_in notes.now) j 0 }
+// Note j of a part; none where it is 0, and behind the last.
+fn note_at(part: &[u16], j: usize) -> Option<usize>
+    ensures { result ≡ noted (get_or part.now j 0) }
+{
+    match at_or(part, j, 0) {
+        0 => None,
+        note => Some(usize::from(note)),
+    }
+}
+
+// 1 more than the number of the block whose range starts at word j; none where none does.
+pub fn start_at(notes: &[u16], j: usize) -> Option<usize>
+    ensures { result ≡ noted (get_or (starts_in notes.now) j 0) }
 {
     let third = notes.len() / PARTS;
-    if third <= j {
-        return 0;
-    }
-    short_at(notes, j)
+    note_at(&notes[..third], j)
 }
 
-// The number of the block whose range starts at word j; 0 where none does.
-pub fn block_at(notes: &[u16], j: usize) -> usize
-    ensures { result ≡ get_or (starts_in notes.now) j 0 - 1 }
+// The number of the block whose range starts at word j; none where none does.
+pub fn block_at(notes: &[u16], j: usize) -> Option<usize>
+    ensures { result ≡ one_less (get_or (starts_in notes.now) j 0) }
 {
-    before(start_at(notes, j))
+    start_at(notes, j).map(|start| start - 1)
 }
 
-// The number of the between block of the loop at word i, or 0.
-pub fn between_at(notes: &[u16], i: usize) -> usize
-    ensures { result ≡ get_or (betweens_in notes.now) i 0 }
+// The number of the between block of the loop at word i; none where it has none.
+pub fn between_at(notes: &[u16], i: usize) -> Option<usize>
+    ensures { result ≡ noted (get_or (betweens_in notes.now) i 0) }
 {
     let third = notes.len() / PARTS;
-    if third <= i {
-        return 0;
-    }
-    short_at(notes, third + i)
+    note_at(&notes[third..third + third], i)
 }
 
-// 1 more than the word whose assignment stands at the front of the block that starts at word t, or 0.
-pub fn front_at(notes: &[u16], t: usize) -> usize
-    ensures { result ≡ get_or (fronts_in notes.now) t 0 }
+// The word whose assignment stands at the front of the block that starts at word t; none where none does.
+pub fn front_at(notes: &[u16], t: usize) -> Option<usize>
+    ensures { result ≡ one_less (get_or (fronts_in notes.now) t 0) }
 {
     let third = notes.len() / PARTS;
-    if third <= t {
-        return 0;
-    }
-    short_at(notes, third + third + t)
+    note_at(&notes[third + third..third + third + third], t).map(|front| front - 1)
 }
 
 // One past the last word of the range that starts at word j: the next word at which a block starts. The range at n is empty. The
@@ -114,18 +99,13 @@ pub fn range_end(notes: &[u16], j: usize) -> usize
     ensures anyway { (j ≤ result) × (j ≤ third notes.now → result ≤ third notes.now) }
 {
     let past = notes.len() / PARTS;
-    if past <= j {
+    if past.saturating_sub(j) <= 1 {
         return j;
     }
-    if past - j == 1 {
-        return j;
-    }
-    let mut end = j + 1;
-    while end < past {
-        if short_at(notes, end) != 0 {
+    for end in j + 1..past {
+        if notes[end] != 0 {
             return end;
         }
-        end += 1;
     }
-    end
+    past
 }

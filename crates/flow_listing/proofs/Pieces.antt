@@ -22,11 +22,10 @@ use Rattle.judging.specs.Judge.{Answer, given, refusal, judge, listing_of}
 use Rattle.judging.specs.Refusal.{refusal_of, refusal_line}
 use Rattle.judging.specs.Answers.{answer_of}
 use Rattle.judging.specs.declared.refusal.Refusal.{Refusal}
-use Rattle.judging.specs.declared.Judged.{Judged}
-use Rattle.judging.specs.declared.Answer.TheVariants.{Given, Refused}
 use Rattle.judging.proofs.Acceptance.{accepted, accepted_count, accepted_whole}
 use Rattle.judging.proofs.Judging.{count_whole, few_functions}
 use Rattle.judging.proofs.Refusals.{refused}
+use Rattle.std.proofs.Common.{Result, Ok, Err}
 use Rattle.block_lines.specs.Lines.{run_numbers}
 use Rattle.listing.specs.Printed.{Lists}
 use Rattle.reading.specs.Program.{buffer, by_lua, listings, pieces_for, pieces_by, pieces}
@@ -68,16 +67,16 @@ module _ (s : List ℕ) (n f : ℕ) where
   listings_done h = let none : n - f ≡ 0 = omega arith in rw none
 
 -- none is printed yet
-pub reached_none : (s : List ℕ) (j : Judged) (table : List ℕ) → table ≡ lua → answer_of j.answer ≡ judge (word_back table) s
-    → places_of j.functions ≡ (walk s).places → Reached s j 0
+pub reached_none : (s : List ℕ) (answer : Result ℕ Refusal) (functions : Functions) (table : List ℕ) → table ≡ lua
+    → answer_of answer ≡ judge (word_back table) s → places_of functions ≡ (walk s).places → Reached s answer functions 0
 unfolding pieces_by pieces_for over
-reached_none s j table own e p = record { judged = rw own at e; places = p; pieces = start (judge by_lua s) }
+reached_none s answer functions table own e p = record { judged = rw own at e; places = p; pieces = start (judge by_lua s) }
   where
     start : (a : Answer) → pieces_for by_lua s a ≡ listings_below s 0 ++ left s a 0
     start (given n) = let all : n - 0 ≡ n = omega arith in rw all
     start (refusal n f p) = refl
 
-module _ (s : List ℕ) (j : Judged) (k : ℕ) (reached : Reached s j k) where
+module _ (s : List ℕ) (answer : Result ℕ Refusal) (functions : Functions) (k : ℕ) (reached : Reached s answer functions k) where
   below_count : length (listings_below s k) ≡ k
   below_count = over_length (listing_of by_lua s) 0 k
 
@@ -88,35 +87,35 @@ module _ (s : List ℕ) (j : Judged) (k : ℕ) (reached : Reached s j k) where
       (rw all (get_or_at (listings_below s k) x xs [] k below_count), rw all (simp length-append (omega (arith, below_count))))
 
   -- a refused input has its X line only
-  pub piece_refused : (x : Refusal) → j.answer ≡ Refused x → (line_of (refusal_of x) ≡ get_or (pieces s) k []) × After s j k true
+  pub piece_refused : (x : Refusal) → answer ≡ Err x → (line_of (refusal_of x) ≡ get_or (pieces s) k []) × After s answer functions k true
   piece_refused x e =
       let judged : judge by_lua s ≡ refusal_of x = sym reached.judged ∙ ap answer_of e in
       let is = (refused x).is in
       let first = first_left (line_of (refusal_of x)) [] (rw (judged, is)) in
       (sym first.0, omega (arith, first.1))
 
-  module _ (n : ℕ) (e : j.answer ≡ Given n) where
+  module _ (n : ℕ) (e : answer ≡ Ok n) where
     judged_given : judge by_lua s ≡ given n
     judged_given = sym reached.judged ∙ ap answer_of e
 
     few : n ≤ most_functions
     few =
-        let whole = accepted_whole by_lua s j.functions n judged_given reached.places in
+        let whole = accepted_whole by_lua s functions n judged_given reached.places in
         omega (arith, accepted_count by_lua s n judged_given, count_whole whole, few_functions whole)
 
     -- all functions are listed
-    pub piece_none : n ≤ k → ([] ≡ get_or (pieces s) k []) × After s j k true
+    pub piece_none : n ≤ k → ([] ≡ get_or (pieces s) k []) × After s answer functions k true
     piece_none all =
         let none : pieces s ≡ listings_below s k ++ [] = rw (judged_given, listings_done s n k all) at reached.pieces in
         let long : length (pieces s) ≡ k = rw none (simp length-append (omega (arith, below_count))) in
         (sym (get_or-eq_default (pieces s) [] {n = k} (omega arith)), omega arith)
 
-    pub listable : k < n → Listable s j.functions k
+    pub listable : k < n → Listable s functions k
     listable below = record { accepted = record { functions = n; judged = judged_given; among = below }; places = reached.places }
 
     -- the next listing, or 33
     pub piece_next : k < n → (last : Bool) → last ≡ ltb buffer (length (listing_of by_lua s k))
-        → (cond last (refusal_line 33 k 0) (listing_of by_lua s k) ≡ get_or (pieces s) k []) × After s j k last
+        → (cond last (refusal_line 33 k 0) (listing_of by_lua s k) ≡ get_or (pieces s) k []) × After s answer functions k last
     piece_next below true long =
         let first = first_left (refusal_line 33 k 0) [] (rw judged_given (listings_short s n k below (ltb-true buffer (length (listing_of by_lua s k)) (sym long)))) in
         (sym first.0, omega (arith, first.1))

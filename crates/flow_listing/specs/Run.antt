@@ -1,5 +1,5 @@
 -- What the code holds while it prints the pieces of the listing program's output.
-use Rattle.std.specs.Prelude.{ℕ, ◌+◌, ◌-◌, ◌≤◌, ◌<◌, Bool, true, false, List, [], ◌∷◌, ◌++◌, ◌≡◌, length}
+use Rattle.std.specs.Prelude.{ℕ, ◌+◌, ◌-◌, ◌≤◌, ◌<◌, Bool, true, false, List, [], ◌∷◌, ◌++◌, ◌≡◌, length, Result}
 use Rattle.basics.specs.Range.{over, only}
 use Rattle.lua51_deserializer.specs.Chunk.{walk, most_functions}
 use Rattle.lua51_deserializer.specs.Walked.{places_of}
@@ -7,7 +7,7 @@ use Rattle.lua51_deserializer.specs.declared.chunk.Functions.{Functions}
 use Rattle.judging.specs.Judge.{Answer, given, refusal, judge, listing_of}
 use Rattle.judging.specs.Answers.{answer_of}
 use Rattle.judging.specs.Refusal.{refusal_line}
-use Rattle.judging.specs.declared.Judged.{Judged}
+use Rattle.judging.specs.declared.refusal.Refusal as code
 use Rattle.follow.specs.Demand.{Accepted}
 use Rattle.reading.specs.Program.{by_lua, listings, pieces}
 
@@ -31,12 +31,12 @@ left s (given n) k = listings by_lua s k (n - k)
 left s (refusal n f p) k = refusal_line n f p ∷ []
 
 -- the input s was judged, and of its pieces the first k, which are listings, are printed
-pub record Reached (s : List ℕ) (j : Judged) (k : ℕ) : Type 0 where
-  pub judged : answer_of j.answer ≡ judge by_lua s
-  pub places : places_of j.functions ≡ (walk s).places
+pub record Reached (s : List ℕ) (answer : Result ℕ code.Refusal) (functions : Functions) (k : ℕ) : Type 0 where
+  pub judged : answer_of answer ≡ judge by_lua s
+  pub places : places_of functions ≡ (walk s).places
   pub pieces : pieces s ≡ listings_below s k ++ left s (judge by_lua s) k
 
 -- where the run is behind piece k: at its end, or at the next piece
-abbrev pub After : List ℕ → Judged → ℕ → Bool → Type 0
-After s j k true = length (pieces s) ≤ k + 1
-After s j k false = (k < most_functions) × Reached s j (k + 1)
+abbrev pub After : List ℕ → Result ℕ code.Refusal → Functions → ℕ → Bool → Type 0
+After s answer functions k true = length (pieces s) ≤ k + 1
+After s answer functions k false = (k < most_functions) × Reached s answer functions (k + 1)

@@ -8,6 +8,7 @@ use crate::run::put_piece;
 use house_table::lua;
 use input::read_full;
 use judging::walk_and_judge;
+use lua51_deserializer::chunk::Functions;
 use lua51_lister::RUN_NUMBERS;
 use reading::PROGRAM_BUFFER;
 use std::io::Write;
@@ -29,12 +30,12 @@ fn main(rt: HostRuntime) {
     let mut buf = [0u8; MOST_INPUT];
     let n = read_full(&mut rt.stdin(), &mut buf);
     let s = &buf[..n];
-    let judged = walk_and_judge(s, lua());
+    let mut functions = Functions::new();
+    let judged = walk_and_judge(s, lua(), &mut functions);
     let mut out = [0u8; PROGRAM_BUFFER];
     let mut run = [0u32; RUN_NUMBERS];
-    let mut k = 0;
-    loop {
-        let piece = put_piece(&mut out, s, judged, k, &mut run);
+    for k in 0.. {
+        let piece = put_piece(&mut out, s, judged, &functions, k, &mut run);
         let m = piece.length;
         if rt.stdout().write_all(&out[..m]).is_err() {
             return;
@@ -42,6 +43,5 @@ fn main(rt: HostRuntime) {
         if piece.last {
             return;
         }
-        k += 1;
     }
 }

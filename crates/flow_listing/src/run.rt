@@ -8,44 +8,43 @@ ghost use Rattle.reading.specs.Program.{buffer, by_lua, pieces};
 ghost use Rattle.flow_listing.specs.Run.{Listable, line_of, Reached, After};
 
 use house_table::lua;
-use judging::refusal::{Refusal, numbers_of, put_refusal};
-use judging::{Answer, Judged};
+use judging::refusal::{Numbers, Refusal, put_refusal};
 use listing::function::put_function;
 use lua51_deserializer::chunk::Functions;
 use reading::PROGRAM_BUFFER;
 
-// A piece that stands at the output's start: its length, and whether the run ends with it.
+// A piece that stands at the output's start: its length, and whether the run ends with it. Both are asked of every piece, the one to write
+// it and the other behind that: in an enum each of two variants would hold the length, and whoever writes would take it out of both.
 #[derive(Clone, Copy)]
 pub struct Piece {
     pub length: usize,
     pub last: bool,
 }
 
-// Prints the X line of a refusal, with which the run ends.
-fn put_last(out: &mut [u8], refusal: Refusal) -> Piece
+// Prints the X line of a refusal, and gives its length.
+fn put_line(out: &mut [u8], refusal: Refusal) -> usize
     requires { buffer ≤ length out.old }
-    ensures out_after { take result.length out.new ≡ line_of (refusal_of refusal) }
-    ensures prefix_len { IsPrefixLen result.length out.new }
-    ensures last_value { result.last ≡ true }
+    ensures out_after { take result out.new ≡ line_of (refusal_of refusal) }
+    ensures prefix_len { IsPrefixLen result out.new }
 {
-    Piece {
-        length: put_refusal(out, 0, numbers_of(refusal)),
-        last: true,
-    }
+    put_refusal(out, 0, Numbers::from(refusal))
 }
 
 // Prints the listing of function f, or the X line for 33 where it does not fit the buffer.
-fn put_next(out: &mut [u8], s: &[u8], functions: Functions, f: u32, run: &mut [u32]) -> Piece
-    requires listable { Listable s.now functions f }
+fn put_next(out: &mut [u8], s: &[u8], functions: &Functions, f: u32, run: &mut [u32]) -> Piece
+    requires listable { Listable s.now functions.now f }
     requires buffer_in_bounds { buffer ≤ length out.old }
     requires run_numbers_in_bounds { run_numbers ≤ length run.old }
     ensures out_after { take result.length out.new ≡ cond (ltb buffer (length (listing_of by_lua s.now f))) (refusal_line 33 f 0) (listing_of by_lua s.now f) }
     ensures prefix_len { IsPrefixLen result.length out.new }
     ensures last_value { result.last ≡ ltb buffer (length (listing_of by_lua s.now f)) }
 {
-    let length = put_function(out, s, functions, f, lua(), false, run);
+    let length = put_function(out, s, *functions, f, lua(), false, run);
     if PROGRAM_BUFFER < length {
-        return put_last(out, Refusal::OutputShort(f));
+        return Piece {
+            length: put_line(out, Refusal::OutputShort(f)),
+            last: true,
+        };
     }
     Piece {
         length,
@@ -55,25 +54,34 @@ fn put_next(out: &mut [u8], s: &[u8], functions: Functions, f: u32, run: &mut [u
 
 // Prints piece k of the output for an input that was judged; where there is none, its length is 0 and the run ends. The buffer `run`
 // is lent for its statements.
-pub fn put_piece(out: &mut [u8], s: &[u8], judged: Judged, k: usize, run: &mut [u32]) -> Piece
-    requires reached { Reached s.now judged k }
+pub fn put_piece(
+    out: &mut [u8],
+    s: &[u8],
+    judged: Result<usize, Refusal>,
+    functions: &Functions,
+    k: usize,
+    run: &mut [u32],
+) -> Piece
+    requires reached { Reached s.now judged functions.now k }
     requires buffer_in_bounds { buffer ≤ length out.old }
     requires run_numbers_in_bounds { run_numbers ≤ length run.old }
     ensures out_after { take result.length out.new ≡ get_or (pieces s.now) k [] }
     ensures prefix_len { IsPrefixLen result.length out.new }
-    ensures after { After s.now judged k result.last }
+    ensures after { After s.now judged functions.now k result.last }
 {
-    let answer = judged.answer;
-    match answer {
-        Answer::Refused(refusal) => put_last(out, refusal),
-        Answer::Given(count) => {
+    match judged {
+        Err(refusal) => Piece {
+            length: put_line(out, refusal),
+            last: true,
+        },
+        Ok(count) => {
             if count <= k {
                 return Piece {
                     length: 0,
                     last: true,
                 };
             }
-            put_next(out, s, judged.functions, k as u32, run)
+            put_next(out, s, functions, k as u32, run)
         }
     }
 }

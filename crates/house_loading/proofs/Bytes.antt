@@ -1,26 +1,23 @@
 -- Numbers in bytes are refused where the numbers are; and the loops over the lines. Assumes nothing.
 use Prim.Native.Nat.{ℕ, zero, suc, ◌+◌, ◌-◌, ◌<◌, ◌≤◌}
 use native.Mathlib.Omega.{arith}
-use native.Mathlib.Decide.{dec_lt}
-use mathlib.Core.Bool.{true, false}
-use mathlib.Core.Path.{◌≡◌, refl, sym, subst, ◌∙◌}
-use mathlib.Core.List.{List}
-use lib.Dec.{eqb}
+use native.Mathlib.Decide.{dec_lt, ℕ_discrete}
+use mathlib.Core.Bool.{Bool, true, false, not, cond}
+use mathlib.Core.Path.{◌≡◌, refl, sym, ap, subst, ◌∙◌}
+use mathlib.Core.List.{List, [], ◌∷◌}
+use Rattle.std.specs.Prelude.{Option, Some, None, is_some}
+use Rattle.std.specs.List.{list_any}
+use lib.Dec.{eqb, ltb}
 use lib.ListN.{length, get_or, take}
-use lib.Seq.{get_or-take, length-take-le}
-use borrow.Author.Tests.{lt-ltb, le-ltb, ne_eqb}
+use borrow.Author.Tests.{lt-ltb, le-ltb, eq-eqb, ne_eqb}
+use Rattle.lines.specs.Numeral.{Numeral, numeral_of}
 use Rattle.basics.specs.Range.{only, over, times, table as filled}
 use Rattle.basics.proofs.Tables.{table_at as filled_at}
 use Rattle.house_table.specs.House.{opcode_count, highest_opcode}
-use Rattle.lua51_lifter.specs.Check.{Verdict, fine, wrong, ◌else◌, first_refusal}
+use Rattle.lua51_lifter.specs.Check.{Verdict, fine, wrong, first_refusal}
 use Rattle.lua51_lifter.proofs.Verdicts.{first_turn}
 use Rattle.house_loading.specs.Loading.{table_line, number_said, says_none, table_of, repeated, form_verdict, number_verdict, load_verdict, table_length}
-use Rattle.house_loading.specs.TableVerdict.{table_verdict_of, in_byte, table_bytes}
-use Rattle.house_loading.specs.declared.TableVerdict as found
-use Rattle.house_loading.specs.declared.TableVerdict.TheVariants.{Fine, Refused}
-use Rattle.house_loading.specs.declared.TableFault.{TableFault}
-use Rattle.house_loading.proofs.Loading.{repeated_at}
-use Rattle.house_loading.proofs.Permutations.{times_none}
+use Rattle.house_loading.specs.TableVerdict.{in_byte, table_bytes}
 
 -- ------------------------------------------------------------ numbers in bytes
 
@@ -94,6 +91,12 @@ module _ (f : ℕ → Verdict) (n i : ℕ) where
   first_passed h e = first_turn f n i h ∙ rw e
 
 -- what one line is found to be
+pub says_none_is : (r : Option ℕ) {n : Numeral} (b : Bool) → numeral_of r ≡ n → is_some r ≡ not b → says_none n ≡ b
+says_none_is (Some x) true e h = cc
+says_none_is (Some x) false e h = sym (ap says_none e)
+says_none_is None true e h = sym (ap says_none e)
+says_none_is None false e h = cc
+
 pub form_wrong : (s : List ℕ) (i : ℕ) → says_none (table_line s i) ≡ true → form_verdict s i ≡ wrong 34 i
 unfolding form_verdict
 form_wrong s i h = rw h
@@ -115,46 +118,28 @@ unfolding number_verdict
 number_right xs i h t = rw (le-ltb highest_opcode (get_or xs i 0) h, t)
 
 -- whether a number stands in an earlier line
-pub is_repeated : (xs : List ℕ) (j i : ℕ) → j < i → i ≤ length xs → get_or xs j 0 ≡ get_or xs i 0 → repeated xs i ≡ true
-is_repeated xs j i l h e = lt-ltb 0 (times (get_or xs i 0) (take i xs)) (rw e at (repeated_at xs j i l h))
-
-pub not_repeated : (xs : List ℕ) (i : ℕ) → i ≤ length xs → ((j : ℕ) → j < i → get_or xs j 0 ≡ get_or xs i 0 → ⊥) → repeated xs i ≡ false
-not_repeated xs i h none =
-    let long : length (take i xs) ≡ i = length-take-le i xs h in
-    le-ltb 0 (times (get_or xs i 0) (take i xs))
-    (omega (
-      arith,
-      times_none (get_or xs i 0) (take i xs)
-          (λ j l e.
-          let less : j < i = omega arith in
-          none j less (sym (e ∙ get_or-take i xs j 0 less))),
-    ))
-
-pub none_more : (xs : List ℕ) (i k : ℕ) → ((j : ℕ) → j < k → get_or xs j 0 ≡ get_or xs i 0 → ⊥) → (get_or xs k 0 ≡ get_or xs i 0 → ⊥)
-    → (j : ℕ) → j < k + 1 → get_or xs j 0 ≡ get_or xs i 0 → ⊥
-none_more xs i k before here j h e = go (dec_lt j k)
+pub contained : (x : ℕ) (xs : List ℕ) → list_any (λ y. eqb y x) xs ≡ ltb 0 (times x xs)
+unfolding times
+contained x [] = refl
+contained x (y ∷ ys) = go (ℕ_discrete x y) (contained x ys)
   where
-    go : Dec (j < k) → ⊥
-    go (yes l) = before j l e
-    go (no m) =
-        let last : k ≡ j = omega arith in
-        here (rw last e)
+    go : Dec (x ≡ y) → list_any (λ y. eqb y x) ys ≡ ltb 0 (times x ys) → list_any (λ y. eqb y x) (y ∷ ys) ≡ ltb 0 (cond (eqb x y) 1 0 + times x ys)
+    go (yes e) behind = rw (eq-eqb x y e, eq-eqb y x (sym e)) (sym (lt-ltb 0 (1 + times x ys) (omega arith)))
+    go (no n) behind =
+        let none : 0 + times x ys ≡ times x ys = omega arith in
+        rw (ne_eqb x y n, ne_eqb y x (λ e. n (sym e)), none) behind
 
 -- and all of them: the length, the forms, the numbers
 pub length_wrong : (s : List ℕ) → (length s ≡ table_length → ⊥) → load_verdict s ≡ wrong 34 0
 unfolding load_verdict
 length_wrong s h = rw (ne_eqb (length s) table_length h)
 
--- v is what the forms were found to be
-module _ (s : List ℕ) (long : length s ≡ table_length) (v : found.TableVerdict) (e : table_verdict_of v ≡ first_refusal (form_verdict s) 0 opcode_count) where
-  behind_length : load_verdict s ≡ table_verdict_of v else first_refusal (number_verdict (table_bytes s)) 0 opcode_count
-  unfolding load_verdict
-  behind_length = rw (long, e, bytes_verdict s)
+pub forms_wrong : (s : List ℕ) (k p : ℕ) → length s ≡ table_length → wrong k p ≡ first_refusal (form_verdict s) 0 opcode_count
+    → wrong k p ≡ load_verdict s
+unfolding load_verdict
+forms_wrong s k p long e = rw (long, ← e)
 
-  pub forms_decide : (x : TableFault) → v ≡ Refused x → table_verdict_of v ≡ load_verdict s
-  forms_decide x h =
-      let ends : table_verdict_of v else first_refusal (number_verdict (table_bytes s)) 0 opcode_count ≡ table_verdict_of v = rw h in
-      sym (behind_length ∙ ends)
-
-  pub numbers_decide : v ≡ Fine → load_verdict s ≡ first_refusal (number_verdict (table_bytes s)) 0 opcode_count
-  numbers_decide h = behind_length ∙ rw h
+pub numbers_decide : (s : List ℕ) (v : Verdict) → length s ≡ table_length → fine ≡ first_refusal (form_verdict s) 0 opcode_count
+    → v ≡ first_refusal (number_verdict (table_bytes s)) 0 opcode_count → v ≡ load_verdict s
+unfolding load_verdict
+numbers_decide s v long e n = rw (long, ← e, ← bytes_verdict s, ← n)

@@ -1,13 +1,11 @@
 -- The numbers and places of document 02, 3 for what the code finds in the bytes of a table, and the numbers as it holds them.
-use Rattle.std.specs.Prelude.{ℕ, min, List}
+use Rattle.std.specs.Prelude.{ℕ, min, List, Result, Ok, Err}
 use Rattle.basics.specs.Range.{table as filled}
 use Rattle.house_table.specs.House.{opcode_count}
 use Rattle.lua51_lifter.specs.Check.{Verdict, fine, wrong}
 use Rattle.house_loading.specs.Loading.{table_line, number_said}
 use Rattle.house_loading.specs.declared.TableFault.{TableFault}
 use Rattle.house_loading.specs.declared.TableFault.TheVariants.{Form, Number}
-use Rattle.house_loading.specs.declared.TableVerdict.{TableVerdict}
-use Rattle.house_loading.specs.declared.TableVerdict.TheVariants.{Fine, Refused}
 
 -- the number of each fault of a table
 abbrev pub table_fault_number : TableFault → ℕ
@@ -19,9 +17,9 @@ abbrev pub table_fault_place : TableFault → ℕ
 table_fault_place (Form i) = i
 table_fault_place (Number i) = i
 
-abbrev pub table_verdict_of : TableVerdict → Verdict
-table_verdict_of Fine = fine
-table_verdict_of (Refused f) = wrong (table_fault_number f) (table_fault_place f)
+abbrev pub table_verdict_of : {A : Type 0} → Result A TableFault → Verdict
+table_verdict_of (Ok a) = fine
+table_verdict_of (Err f) = wrong (table_fault_number f) (table_fault_place f)
 
 -- a number in a byte: one above 37, which is refused, as 38
 abbrev pub in_byte : ℕ → ℕ

@@ -4,8 +4,7 @@
 ghost use Rattle.std.specs.Prelude.{◌≡◌};
 ghost use Rattle.house_table.specs.House.{lua, inverse_of, word_by};
 
-use basics::numbers::wide;
-use basics::slices::byte_at;
+use basics::slices::at_or;
 
 // How many opcodes Lua 5.1 has, and so how many numbers a table has.
 pub const OPCODES: usize = 38;
@@ -36,10 +35,8 @@ pub fn inverse_of(table: [u8; OPCODES]) -> [u8; NUMBERS]
     ensures { result ≡ inverse_of table }
 {
     let mut inverse = NO_OPCODES;
-    let mut i = OPCODES;
-    while 0 < i {
-        i -= 1;
-        let number = wide(table[i]) as usize;
+    for i in (0..OPCODES).rev() {
+        let number = usize::from(table[i]);
         if number < OPCODES {
             inverse[number] = i as u8;
         }
@@ -52,6 +49,6 @@ pub fn word_back(inverse: &[u8], word: u32) -> u32
     ensures { result ≡ word_by inverse.now word }
 {
     let number = word % (NUMBERS as u32);
-    let opcode = wide(byte_at(inverse, number as usize)) % (NUMBERS as u32);
+    let opcode = u32::from(at_or(inverse, number as usize, 0)) % (NUMBERS as u32);
     word - number + opcode
 }

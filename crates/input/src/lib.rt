@@ -10,6 +10,7 @@ pub fn read_full(input: &mut impl Read, buf: &mut [u8]) -> usize
     ensures { IsPrefixLen result buf.new }
 {
     let mut done = 0;
+    // No `for`: a turn moves on by as many bytes as the read gave.
     while done < buf.len() {
         let Ok(n) = input.read(&mut buf[done..]) else {
             break;

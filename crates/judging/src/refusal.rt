@@ -7,9 +7,10 @@ ghost use Rattle.lua51_lifter.specs.Verdict.{function_fault_number, function_fau
 ghost use Rattle.house_loading.specs.TableVerdict.{table_fault_number, table_fault_place};
 ghost use Rattle.judging.specs.Judge.{refusal};
 ghost use Rattle.judging.specs.Refusal.{refusal_of, refusal_by, refusal_line};
+ghost use Rattle.judging.specs.declared.refusal.Refusal.TheVariants.{Chunk, Table};
 
 use house_loading::TableFault;
-use lines::{LETTER_X, put_wide_line};
+use lines::{LETTER_X, Output};
 use lua51_deserializer::fields::ChunkFault;
 use lua51_lifter::verdict::FunctionFault;
 
@@ -30,6 +31,22 @@ pub enum Refusal {
     OutputShort(u32),
     // 34 and 35: what is wrong with the bytes of a house table.
     Table(TableFault),
+}
+
+impl From<ChunkFault> for Refusal {
+    ghost from_gives = { λ fault refusal. refusal ≡ Chunk fault };
+
+    fn from(fault: ChunkFault) -> Refusal {
+        Refusal::Chunk(fault)
+    }
+}
+
+impl From<TableFault> for Refusal {
+    ghost from_gives = { λ fault refusal. refusal ≡ Table fault };
+
+    fn from(fault: TableFault) -> Refusal {
+        Refusal::Table(fault)
+    }
 }
 
 // The numbers of a refusal.
@@ -92,27 +109,26 @@ fn table_numbers(fault: TableFault) -> Numbers
 }
 
 // The numbers of a refusal.
-pub fn numbers_of(refusal: Refusal) -> Numbers
-    ensures { refusal_by result ≡ refusal_of refusal }
-{
-    match refusal {
-        Refusal::Chunk(fault) => chunk_numbers(fault),
-        Refusal::Function(f, fault) => function_numbers(f as usize, fault),
-        Refusal::NotOpened(f) => refused_at(31, f as usize, 0),
-        Refusal::NoFunction(f) => refused_at(32, f as usize, 0),
-        Refusal::OutputShort(f) => refused_at(33, f as usize, 0),
-        Refusal::Table(fault) => table_numbers(fault),
+impl From<Refusal> for Numbers {
+    ghost from_gives = { λ refused numbers. refusal_by numbers ≡ refusal_of refused };
+
+    fn from(refused: Refusal) -> Numbers {
+        match refused {
+            Refusal::Chunk(fault) => chunk_numbers(fault),
+            Refusal::Function(f, fault) => function_numbers(f as usize, fault),
+            Refusal::NotOpened(f) => refused_at(31, f as usize, 0),
+            Refusal::NoFunction(f) => refused_at(32, f as usize, 0),
+            Refusal::OutputShort(f) => refused_at(33, f as usize, 0),
+            Refusal::Table(fault) => table_numbers(fault),
+        }
     }
 }
 
-// Prints the X line of a refusal.
+// Prints the X line of a refusal from a place on, and gives the place behind it.
 pub fn put_refusal(out: &mut [u8], at: usize, refused: Numbers) -> usize
     ensures { output out.new result ≡ puts (output out.old at) (refusal_line refused.number refused.function refused.place) }
 {
-    put_wide_line(
-        out,
-        at,
-        LETTER_X,
-        &[refused.number, refused.function, refused.place],
-    )
+    let mut out = Output { bytes: out, at };
+    out.put_line(LETTER_X, &[refused.number, refused.function, refused.place]);
+    out.at
 }

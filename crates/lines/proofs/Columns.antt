@@ -1,26 +1,16 @@
 -- The seven columns of a number, each from the number down to it. Assumes nothing.
 use Prim.Native.Nat.{ℕ, zero, suc, ◌+◌, ◌-◌, ◌*◌, ◌/◌, ◌%◌, ◌^◌, ◌≤◌, ◌<◌}
-use mathlib.Core.Bool.{Bool, true, false, cond}
+use mathlib.Core.Bool.{cond}
 use mathlib.Core.Path.{◌≡◌, refl, sym, ap, ◌∙◌}
 use mathlib.Core.List.{List, [], ◌∷◌, ◌++◌, append_assoc}
 use native.Mathlib.Decide.{dec_lt}
 use native.Mathlib.Omega.{arith}
 use borrow.Author.Tests.{lt-ltb}
-use mir.Val.{bool_byte}
 use lib.Dec.{ltb}
 use lib.ListN.{length, replicate}
 use Rattle.lines.specs.Line.{blank, digit, decimal, column}
 use Rattle.lines.specs.Cell.{most_in_columns, cell}
 use Rattle.lines.proofs.Decimal.{decimal_few, decimal_more, length_few, length_more}
-
--- a test as a number
-pub flag : (b : Bool) → bool_byte b ≡ cond b 1 0
-flag true = refl
-flag false = refl
-
-pub flag_most : (b : Bool) → bool_byte b ≤ 1
-flag_most true = omega arith
-flag_most false = omega arith
 
 -- a cell is a sum: a blank, what a 0 is above it where there is a digit, and the digit
 pub cell_sum : (q some : ℕ) → some ≡ cond (ltb 0 q) 1 0 → blank + 16 * some + q % 10 ≡ cell q

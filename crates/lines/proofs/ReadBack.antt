@@ -1,14 +1,17 @@
 -- A number in 7 columns is read back, and nothing else reads as it. Assumes nothing.
 use Prim.Native.Nat.{ℕ, zero, suc, ◌+◌, ◌-◌, ◌*◌, ◌/◌, ◌%◌, ◌^◌, ◌≤◌, ◌<◌}
-use mathlib.Core.Bool.{Bool, true, false, cond, ◌&&◌, true≢false}
+use mathlib.Core.Bool.{Bool, true, false, cond, not, ◌&&◌, true≢false}
 use mathlib.Core.Path.{◌≡◌, refl, sym, ap, ◌∙◌}
 use mathlib.Core.List.{List, [], ◌∷◌, ◌++◌, append_assoc, append-nil}
 use mathlib.Core.Logic.{⊎_elim}
 use native.Mathlib.Nat.{pow-succ', pow-le-pow_right}
 use native.Mathlib.Decide.{ℕ_discrete, dec_lt}
 use native.Mathlib.Omega.{arith}
-use borrow.Author.Tests.{leb-true, eqb-true, le-leb, lt-ltb, eq-eqb, ne_eqb}
-use lib.Dec.{eqb, leb}
+use borrow.Author.Tests.{leb-true, eqb-true, le-leb, lt-ltb, eq-eqb, ne_eqb, ltb-true, ltb-false}
+use lib.Dec.{eqb, leb, ltb}
+use Rattle.std.specs.Prelude.{Option, Some, None, position, slice_range, if◌then◌else◌}
+use Rattle.std.specs.List.{position_or_len}
+use Rattle.std.proofs.lemmas.List.Sums.{passes_at_first}
 use lib.ListN.{length, get_or, take, drop, replicate, length-drop, get_or-eq_default, drop_of_length-le}
 use lib.Seq.{drop-cons, take_all, take-suc, take_at, get_or_at, get_or-take, get_or-drop, take-take, length-take-le}
 use Rattle.lines.specs.Line.{blank, digit, decimal, column, width, line_feed}
@@ -66,21 +69,38 @@ column_digits b bs n z = rw (ne_eqb b blank n, z)
 
 -- ------------------------------------------------------------ byte after byte, as the code goes
 
+-- what a byte says as a digit
+abbrev digit_of : ℕ → Option ℕ
+digit_of b = if is_digit b then Some (b - digit 0) else None
+
+some_digit : (b d : ℕ) → Some d ≡ digit_of b → (is_digit b ≡ true) × (d ≡ b - digit 0)
+some_digit b d = go (is_digit b)
+  where
+    go : (c : Bool) → Some d ≡ (if c then Some (b - digit 0) else None) → (c ≡ true) × (d ≡ b - digit 0)
+    go true e = (refl, cc)
+    go false e = cc
+
+no_digit : (b : ℕ) → None ≡ digit_of b → is_digit b ≡ false
+no_digit b = go (is_digit b)
+  where
+    go : (c : Bool) → None ≡ (if c then Some (b - digit 0) else None) → c ≡ false
+    go true e = cc
+    go false e = refl
+
 module _ (bs : List ℕ) (i : ℕ) (h : i < length bs) where
   here : drop i bs ≡ get_or bs i 0 ∷ drop (i + 1) bs
   here =
       let next : i + 1 ≡ suc i = omega arith in
       rw next (drop-cons bs i 0 h)
 
-  pub digits_turn : (x : ℕ) → is_digit (get_or bs i 0) ≡ true
-      → digits_say x (drop i bs) ≡ digits_say (10 * x + (get_or bs i 0 - digit 0)) (drop (i + 1) bs)
-  digits_turn x t = rw here (digits_more x (get_or bs i 0) (drop (i + 1) bs) t)
+  pub digits_turn : (x d : ℕ) → Some d ≡ digit_of (get_or bs i 0)
+      → (d < 10) × (digits_say x (drop i bs) ≡ digits_say (10 * x + d) (drop (i + 1) bs))
+  digits_turn x d e =
+      let (is, d_is) = some_digit (get_or bs i 0) d e in
+      (omega (arith, digit_most (get_or bs i 0) is), rw (d_is, here) (digits_more x (get_or bs i 0) (drop (i + 1) bs) is))
 
-  pub digits_stop : (x : ℕ) → is_digit (get_or bs i 0) ≡ false → digits_say x (drop i bs) ≡ other_form
-  digits_stop x f = rw here (digits_other x (get_or bs i 0) (drop (i + 1) bs) f)
-
-  pub blank_turn : get_or bs i 0 ≡ blank → column_says (drop i bs) ≡ column_says (drop (i + 1) bs)
-  blank_turn e = rw here (column_blank (get_or bs i 0) (drop (i + 1) bs) e)
+  pub digits_stop : (x : ℕ) → None ≡ digit_of (get_or bs i 0) → digits_say x (drop i bs) ≡ other_form
+  digits_stop x e = rw here (digits_other x (get_or bs i 0) (drop (i + 1) bs) (no_digit (get_or bs i 0) e))
 
   pub zero_leads : get_or bs i 0 ≡ digit 0 → i + 1 < length bs → column_says (drop i bs) ≡ other_form
   zero_leads e l = rw here (column_zero (get_or bs i 0) (drop (i + 1) bs) e (omega (arith, length-drop (i + 1) bs)))
@@ -98,16 +118,61 @@ module _ (bs : List ℕ) (i : ℕ) (h : i < length bs) where
       no_more true = refl
       no_more false = refl
 
+pub columns_end : (bs : List ℕ) (i : ℕ) → length bs ≤ i → column_says (drop i bs) ≡ other_form
+unfolding column_says
+columns_end bs i h = rw (drop_of_length-le bs h)
+
+-- a byte that is no blank, and where the first of them stands
+abbrev pub other : ℕ → Bool
+other b = not (eqb b blank)
+
+abbrev first_other : List ℕ → ℕ
+first_other bs = position_or_len other bs
+
+-- the blanks before it say nothing
+blanks_pass : (bs : List ℕ) → column_says bs ≡ column_says (drop (first_other bs) bs)
+unfolding column_says
+blanks_pass [] = refl
+blanks_pass (b ∷ bs) = go (eqb b blank) refl (blanks_pass bs)
+  where
+    one_more : 1 + first_other bs ≡ suc (first_other bs)
+    one_more = omega arith
+
+    go : (c : Bool) → eqb b blank ≡ c → column_says bs ≡ column_says (drop (first_other bs) bs)
+        → column_says (b ∷ bs) ≡ column_says (drop (first_other (b ∷ bs)) (b ∷ bs))
+    go true e behind = rw (e, one_more) behind
+    go false e behind =
+        let here : b ∷ bs ≡ drop (first_other (b ∷ bs)) (b ∷ bs) = rw e refl in
+        ap column_says here
+
+pub record FirstOther (bs : List ℕ) (i : ℕ) : Type 0 where
+  pub inside : i < length bs
+  pub no_blank : get_or bs i 0 ≡ blank → ⊥
+  pub behind : column_says bs ≡ column_says (drop i bs)
+
+pub first_other_is : (bs : List ℕ) (i : ℕ) → position other bs ≡ Some i → FirstOther bs i
+first_other_is bs i = go (ltb (first_other bs) (length bs)) refl
+  where
+    go : (c : Bool) → ltb (first_other bs) (length bs) ≡ c → cond c (Some (first_other bs)) None ≡ Some i → FirstOther bs i
+    go true l e =
+        let is : first_other bs ≡ i = cc in
+        let room = ltb-true (first_other bs) (length bs) l in
+        rw (← is) (record { inside = room; no_blank = λ z. true≢false (sym (passes_at_first other bs 0 room) ∙ ap not (eq-eqb _ _ z)); behind = blanks_pass bs })
+    go false m e = cc
+
+pub no_other_is : (bs : List ℕ) → position other bs ≡ None → column_says bs ≡ other_form
+no_other_is bs = go (ltb (first_other bs) (length bs)) refl
+  where
+    go : (c : Bool) → ltb (first_other bs) (length bs) ≡ c → cond c (Some (first_other bs)) None ≡ None → column_says bs ≡ other_form
+    go true l e = cc
+    go false m e = blanks_pass bs ∙ columns_end bs (first_other bs) (ltb-false (first_other bs) (length bs) m)
+
 pub take_rest : (bs : List ℕ) (i : ℕ) → take (length bs - i) (drop i bs) ≡ drop i bs
 take_rest bs i = take_all (length bs - i) (drop i bs) (omega (arith, length-drop i bs))
 
 pub digits_end : (bs : List ℕ) (i x : ℕ) → length bs ≤ i → digits_say x (drop i bs) ≡ number x
 unfolding digits_say
 digits_end bs i x h = rw (drop_of_length-le bs h)
-
-pub columns_end : (bs : List ℕ) (i : ℕ) → length bs ≤ i → column_says (drop i bs) ≡ other_form
-unfolding column_says
-columns_end bs i h = rw (drop_of_length-le bs h)
 
 pub line_other : (s : List ℕ) (i : ℕ) → (get_or s (i + width) 0 ≡ line_feed → ⊥) → line_says s i ≡ other_form
 unfolding line_says
@@ -116,11 +181,23 @@ line_other s i n = rw (ne_eqb (get_or s (i + width) 0) line_feed n)
 pub line_cut : (s : List ℕ) (i : ℕ) → length s ≤ i + width → line_says s i ≡ other_form
 line_cut s i h = line_other s i (λ e. omega (arith, get_or-eq_default s 0 h))
 
-pub line_columns : (s : List ℕ) (i : ℕ) → get_or s (i + width) 0 ≡ line_feed → column_says (take (i + width - i) (drop i s)) ≡ line_says s i
-unfolding line_says
-line_columns s i e =
-    let columns : i + width - i ≡ width = omega arith in
-    rw (e, columns)
+-- the 8 bytes of the line from i on
+module _ (s : List ℕ) (i : ℕ) (line : List ℕ) (e : line ≡ take line_length (drop i s)) where
+  feed_of : get_or line width 0 ≡ get_or s (i + width) 0
+  feed_of = rw e (get_or-take line_length (drop i s) width 0 (omega arith) ∙ get_or-drop i s width 0)
+
+  pub line_unended : (get_or line width 0 ≡ line_feed → ⊥) → line_says s i ≡ other_form
+  line_unended n = line_other s i (λ f. n (feed_of ∙ f))
+
+  pub line_columns : get_or line width 0 ≡ line_feed → column_says (take width line) ≡ line_says s i
+  unfolding line_says
+  line_columns f =
+      let feed : get_or s (i + width) 0 ≡ line_feed = sym feed_of ∙ f in
+      rw (feed, e) (ap column_says (take-take width line_length (drop i s) (omega arith)))
+
+pub line_from : (s rest line : List ℕ) (i : ℕ) → rest ≡ slice_range s i (length s) → line ≡ slice_range rest 0 line_length
+    → line ≡ take line_length (drop i s)
+line_from s rest line i e f = f ∙ ap (take line_length) (e ∙ take_rest s i)
 
 -- ------------------------------------------------------------ what is printed is read
 

@@ -1,9 +1,7 @@
 -- A number in 7 columns, read back (document 02, 3: 'a number in 7 columns, as a listing prints it, and a line feed').
-use Rattle.std.specs.Prelude.{ℕ, suc, ◌+◌, ◌-◌, ◌*◌, ◌≤◌, Bool, cond, ◌&&◌, List, [], ◌∷◌, ◌++◌, ◌≡◌, eqb, leb, ltb, length, get_or, take, drop}
+use Rattle.std.specs.Prelude.{ℕ, suc, ◌+◌, ◌-◌, ◌*◌, ◌≤◌, Bool, cond, ◌&&◌, List, [], ◌∷◌, ◌++◌, ◌≡◌, Option, Some, None, eqb, leb, ltb, length, get_or, take, drop}
 use Rattle.lines.specs.Line.{line_feed, blank, digit, width, column}
 use Rattle.lines.specs.Cell.{most_in_columns}
-use Rattle.lines.specs.declared.numeral.Numeral as code
-use Rattle.lines.specs.declared.numeral.Numeral.TheVariants.{Number, OtherForm}
 
 -- what bytes say: a number, or none, since they have another form
 pub data Numeral : Type 0 where
@@ -41,9 +39,9 @@ unfoldable pub line_says : List ℕ → ℕ → Numeral
 line_says s i = let columns = column_says (take width (drop i s)) in cond (eqb (get_or s (i + width) 0) line_feed) columns other_form
 
 -- the same for what the code gives
-abbrev pub numeral_of : code.Numeral → Numeral
-numeral_of (Number x) = number x
-numeral_of OtherForm = other_form
+abbrev pub numeral_of : Option ℕ → Numeral
+numeral_of (Some x) = number x
+numeral_of None = other_form
 
 -- ------------------------------------------------------------ printing, and what is promised of the two
 

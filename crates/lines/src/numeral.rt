@@ -1,5 +1,5 @@
 // Reading a number back from 7 columns.
-ghost use Rattle.std.specs.Prelude.{◌+◌, ◌-◌, ◌≤◌, ◌<◌, ◌≡◌, length, get_or, drop};
+ghost use Rattle.std.specs.Prelude.{◌-◌, ◌≤◌, ◌≡◌, ◌==◌, not, length, position, Some, None, if◌then◌else◌};
 ghost use Rattle.lines.specs.Line.{blank, digit, width};
 ghost use Rattle.lines.specs.Numeral.{numeral_of, is_digit, digits_say, column_says, line_says};
 
@@ -9,95 +9,59 @@ const BLANK: u8 = crate::BLANK as u8;
 
 const DIGIT_ZERO: u8 = crate::DIGIT_ZERO as u8;
 
-const DIGIT_NINE: u8 = b'9';
-
 const BASE: u32 = crate::BASE as u32;
 
 // A line of one number: 7 columns and a line feed.
 pub const LINE_LENGTH: usize = COLUMNS + 1;
 
-// What bytes say: a number, or none, since they have another form.
-#[derive(Clone, Copy)]
-pub enum Numeral {
-    Number(u32),
-    OtherForm,
-}
-
-fn is_digit(b: u8) -> bool
-    ensures { result ≡ is_digit b }
+// The number of one digit; none of a byte that is no digit.
+fn digit_value(b: u8) -> Option<u32>
+    ensures { result ≡ (if is_digit b then Some (b - digit 0) else None) }
 {
-    DIGIT_ZERO <= b && b <= DIGIT_NINE
-}
-
-// The number of one digit.
-fn digit_value(b: u8) -> u32
-    requires { digit 0 ≤ b }
-    ensures { result ≡ b - digit 0 }
-{
-    (b - DIGIT_ZERO) as u32
+    if !b.is_ascii_digit() {
+        return None;
+    }
+    Some(u32::from(b - DIGIT_ZERO))
 }
 
 // What digits say; 7 of them, the most in a line, are below 2 to the 32nd.
-fn number_of(digits: &[u8]) -> Numeral
+fn number_of(digits: &[u8]) -> Option<u32>
     requires { length digits.now ≤ width }
     ensures { numeral_of result ≡ digits_say 0 digits.now }
 {
     let mut x = 0;
-    let mut i = 0;
-    while i < digits.len() {
-        if !is_digit(digits[i]) {
-            return Numeral::OtherForm;
-        }
-        x = BASE * x + digit_value(digits[i]);
-        i += 1;
+    for b in digits {
+        x = BASE * x + digit_value(*b)?;
     }
-    Numeral::Number(x)
+    Some(x)
 }
 
-// How many blanks stand before the first other byte: they say nothing.
-fn count_blanks(columns: &[u8]) -> usize
-    ensures upper_bound { result ≤ length columns.now }
-    ensures columns_value { column_says columns.now ≡ column_says (drop result columns.now) }
-    ensures not_blank { result < length columns.now → get_or columns.now result 0 ≡ blank → ⊥ }
+// Where the first byte stands that is no blank: blanks say nothing.
+fn first_other(columns: &[u8]) -> Option<usize>
+    ensures { result ≡ position (λ b. not (b == blank)) columns.now }
 {
-    let mut i = 0;
-    while i < columns.len() {
-        if columns[i] != BLANK {
-            return i;
-        }
-        i += 1;
-    }
-    i
+    columns.iter().position(|b| *b != BLANK)
 }
 
 // What columns say: blanks, then digits, of which the first is no zero unless it is the only one.
-fn column_says(columns: &[u8]) -> Numeral
+fn column_says(columns: &[u8]) -> Option<u32>
     requires { length columns.now ≤ width }
     ensures { numeral_of result ≡ column_says columns.now }
 {
-    let first = count_blanks(columns);
-    if columns.len() <= first {
-        return Numeral::OtherForm;
-    }
+    let first = first_other(columns)?;
     if columns[first] == DIGIT_ZERO && first + 1 < columns.len() {
-        return Numeral::OtherForm;
+        return None;
     }
     number_of(&columns[first..])
 }
 
-// What the line from `at` on says: 7 columns, then a line feed.
-pub fn number_at(s: &[u8], at: usize) -> Numeral
+// What the line from `at` on says, 7 columns, then a line feed: a number, or none, since it has another form.
+pub fn number_at(s: &[u8], at: usize) -> Option<u32>
     ensures { numeral_of result ≡ line_says s.now at }
 {
-    if s.len() < LINE_LENGTH {
-        return Numeral::OtherForm;
+    let line = s.get(at..)?.get(..LINE_LENGTH)?;
+    if line[COLUMNS] != LINE_FEED {
+        return None;
     }
-    if s.len() - LINE_LENGTH < at {
-        return Numeral::OtherForm;
-    }
-    let end = at + COLUMNS;
-    if s[end] != LINE_FEED {
-        return Numeral::OtherForm;
-    }
-    column_says(&s[at..end])
+    column_says(&line[..COLUMNS])
 }

@@ -1,16 +1,20 @@
 -- The lines of all blocks. Assumes nothing.
-use Prim.Native.Nat.{ℕ, zero, suc, ◌+◌, ◌-◌, ◌≤◌, ◌<◌}
+use Prim.Native.Nat.{ℕ, zero, suc, ◌+◌, ◌≤◌}
 use native.Mathlib.Omega.{arith}
 use mathlib.Core.Bool.{Bool, true, false, cond}
-use mathlib.Core.List.{List, [], ◌∷◌, ◌++◌, append_assoc, flat_map}
+use mathlib.Core.List.{List, [], ◌∷◌, ◌++◌, append_assoc, append-nil, flat_map}
 use mathlib.Core.Path.{◌≡◌, refl, ◌∙◌, sym}
-use lib.ListN.{length}
-use Rattle.lines.specs.Out.{Out, puts}
-use Rattle.lines.proofs.Puts.{puts_append, puts_none}
+use lib.ListN.{length, get_or}
+use Rattle.std.specs.Prelude.{Option, Some, None, is_some}
+use Rattle.lines.specs.Out.{Puts}
+use Rattle.lines.specs.declared.Output.{Output}
+use Rattle.lines.proofs.Puts.{puts_nothing, puts_then, puts_equal}
 use Rattle.basics.specs.Range.{over, only}
-use Rattle.basics.proofs.Range.{chosen_length}
+use Rattle.basics.proofs.Range.{over_split, chosen_length}
 use Rattle.lua51_instruction.specs.Proto.{Proto, size}
 use Rattle.cfg.specs.Graph.{leader, block_of, entry_of, between_of, diverted}
+use Rattle.cfg_notes.specs.Notes.{notes_of, noted, starts_in}
+use Rattle.cfg_notes.proofs.Parts.{start_said}
 use Rattle.cfg_notes.proofs.Numbering.{block_next, block_first, between_next, between_first}
 use Rattle.lua51_lifter.specs.Blocks.{Block, code_block, entry_block, between_block, blocks, Named, naming, graph}
 use Rattle.lua51_lifter.specs.Listing.{item_line, block_items, all_block_items, named_numbers, source_lines, block_line, block_lines}
@@ -19,17 +23,27 @@ use Rattle.block_lines.specs.Lines.{code_lines, between_lines}
 
 -- ------------------------------------------------------------ loops
 
--- one turn of a loop that prints the lines of each number of a range, and its end
+-- a loop that prints the lines of each number from 0 on: before the turn at i it has printed those below i. Its start, and one turn
 module _ (f : ℕ → List ℕ) where
-  pub range_turn : (o : Out) (i n : ℕ) → 0 < n → puts o (over f i n) ≡ puts (puts o (f i)) (over f (i + 1) (n - 1))
+  pub range_start : (o : Output) → Puts o o (over f 0 0)
   unfolding over
-  range_turn o i zero h = absurd (omega arith)
-  range_turn o i (suc n) h = let left : suc n - 1 ≡ n = omega arith in rw left (puts_append o (f i) (over f (i + 1) n))
+  range_start o = puts_nothing o
 
-  pub range_done : (o : Out) (i n : ℕ) → n ≤ 0 → puts o (over f i n) ≡ o
+  range_more : (i : ℕ) → over f 0 i ++ f i ≡ over f 0 (i + 1)
   unfolding over
-  range_done o i zero h = puts_none o
-  range_done o i (suc n) h = absurd (omega arith)
+  range_more i = let here : 0 + i ≡ i = omega arith in sym (over_split f 0 i 1 ∙ rw (here, append-nil (f i)) refl)
+
+  pub range_turn : {a b c : Output} (i : ℕ) → Puts a b (over f 0 i) → Puts b c (f i) → Puts a c (over f 0 (i + 1))
+  range_turn i p q = puts_equal (range_more i) (puts_then p q)
+
+-- a note is read where a block starts
+pub start_read : (p : Proto) (ns : List ℕ) → ns ≡ notes_of p → (j : ℕ) → j ≤ size p → {o : Option ℕ} → o ≡ noted (get_or (starts_in ns) j 0)
+    → is_some o ≡ leader p j
+start_read p ns e j le read = rw (read, start_said p ns e j le) (by_test (leader p j))
+  where
+    by_test : (b : Bool) → is_some (cond b (Some (block_of p j + 1)) None) ≡ b
+    by_test true = refl
+    by_test false = refl
 
 -- ------------------------------------------------------------ all blocks
 
@@ -93,10 +107,9 @@ module _ (p : Proto) where
   unfolding graph blocks codes betweens
   graph_lines = lines_append 0 codes (entry_block naming p ∷ betweens) ∙ rw (code_lines_lem, behind_codes (0 + length codes) (omega (arith, codes_count)))
 
--- the blocks of a function, part by part: o₁ to o₃ are the output behind its code blocks, its entry and its betweens
-pub graph_printed : (p : Proto) (number : ℕ) (o o₁ o₂ o₃ : Out) → number ≡ entry_of p
-    → o₁ ≡ puts o (over (code_lines p) 0 (size p + 1))
-    → o₂ ≡ puts o₁ (block_line p number (entry_block naming p))
-    → o₃ ≡ puts o₂ (over (between_lines p) 0 (size p)) → o₃ ≡ puts o (block_lines p 0 (graph p))
-graph_printed p number o o₁ o₂ o₃ n codes entry betweens =
-    betweens ∙ rw (graph_lines p, puts_append o (over (code_lines p) 0 (size p + 1)) (block_line p (entry_of p) (entry_block naming p) ++ over (between_lines p) 0 (size p)), puts_append (puts o (over (code_lines p) 0 (size p + 1))) (block_line p (entry_of p) (entry_block naming p)) (over (between_lines p) 0 (size p)), entry, codes, n)
+-- the blocks of a function, part by part: its code blocks, its entry and its betweens
+pub graph_printed : (p : Proto) (number : ℕ) {o o₁ o₂ o₃ : Output} → number ≡ entry_of p
+    → Puts o o₁ (over (code_lines p) 0 (size p + 1))
+    → Puts o₁ o₂ (block_line p number (entry_block naming p))
+    → Puts o₂ o₃ (over (between_lines p) 0 (size p)) → Puts o o₃ (block_lines p 0 (graph p))
+graph_printed p number n codes entry betweens = puts_equal (rw n (sym (graph_lines p))) (puts_then codes (puts_then entry betweens))

@@ -1,78 +1,58 @@
 // The listing of one function of a chunk.
 ghost use Rattle.std.specs.Prelude.{ℕ, ◌+◌, ◌*◌, ◌≤◌, ◌<◌, true, List, ◌≡◌, length};
-ghost use Rattle.lines.specs.Out.{output, puts, Prints};
+ghost use Rattle.lines.specs.Out.{output, Puts, PrintsOn};
 ghost use Rattle.lua51_instruction.specs.Proto.{Proto, size, reworded};
 ghost use Rattle.house_table.specs.House.{word_back, word_by};
 ghost use Rattle.lua51_value.specs.Value.{Value};
-ghost use Rattle.lua51_deserializer.specs.Chunk.{here, walked, walk, proto_at, constants_at};
+ghost use Rattle.lua51_deserializer.specs.Chunk.{here, walked, walk, proto_at, constants_at, most_words};
 ghost use Rattle.lua51_deserializer.specs.Walked.{places_of};
-ghost use Rattle.lua51_function.specs.Function.{held_of, places_from, few_words};
+ghost use Rattle.lua51_function.specs.Function.{held_of, places_from};
 ghost use Rattle.lua51_constants.specs.Constants.{AreRead};
-ghost use Rattle.cfg_notes.specs.Notes.{notes_of};
 ghost use Rattle.lua51_lifter.specs.Check.{check, fine};
 ghost use Rattle.lua51_lifter.specs.Listing.{listing};
-ghost use Rattle.block_lines.specs.Lines.{run_numbers, Held};
+ghost use Rattle.block_lines.specs.Lines.{run_numbers, Draws, Held};
 ghost use Rattle.listing.specs.Printed.{printed, Leaves, Lists};
 
 use crate::blocks::put_blocks;
+use block_lines::blocks::Drawn;
 use cfg_notes::notes::{FEW_NOTES, MOST_NOTES, PARTS, note_graph};
 use house_table::{OPCODES, inverse_of};
+use lines::Output;
 use lua51_constants::{put_constant_lines, put_function_line};
 use lua51_deserializer::chunk::Functions;
 use lua51_function::function::{
-    FEW_WORDS, Loaded, MOST_NESTED, MOST_WORDS, function_at, word_count,
+    FEW_WORDS, Loaded, MOST_NESTED, MOST_WORDS, View, function_at, word_count,
 };
 
-// Prints the listing of a function that is loaded, by its lists and the notes of its graph.
-fn put_loaded(
-    out: &mut [u8],
-    at: usize,
-    s: &[u8],
-    loaded: Loaded,
-    words: &[u32],
-    nested: &[u32],
-    nups: &[u8],
-    lines: &[u8],
-    run: &mut [u32],
-    notes: &[u16],
-) -> usize
-    ensures result_after { (p : Proto) (vs : List Value) → Held p loaded.head words.now nested.now nups.now lines.now → run_numbers ≤ length run.old → notes.now ≡ notes_of p
+// Prints the listing of a function that is loaded, by what is drawn of it.
+fn put_loaded(out: &mut Output, s: &[u8], loaded: Loaded, run: &mut [u32], drawn: &Drawn)
+    ensures result_after { (p : Proto) (vs : List Value) → Draws p drawn.now → run_numbers ≤ length run.old
         → AreRead s.now (places_from s.now loaded.first loaded.constants) vs
-        → output out.new result ≡ puts (output out.old at) (listing p vs) }
-    ensures anyway { Prints (output out.old at) (output out.new result) }
+        → Puts out.old out.new (listing p vs) }
+    ensures anyway { PrintsOn out.old out.new }
 {
-    let head = loaded.head;
-    let constants = put_function_line(out, at, head);
-    let blocks = put_constant_lines(out, constants, s, loaded.first, loaded.constants);
-    put_blocks(out, blocks, run, head, words, nested, nups, lines, notes)
+    put_function_line(out, drawn.function.head);
+    put_constant_lines(out, s, loaded.first, loaded.constants);
+    put_blocks(out, run, drawn);
 }
 
 // Prints the listing of a function that is loaded from the output's start, if the output is long enough: it is counted first, by
 // printing it into an empty output.
-fn put_whole(
-    out: &mut [u8],
-    s: &[u8],
-    loaded: Loaded,
-    words: &[u32],
-    nested: &[u32],
-    nups: &[u8],
-    lines: &[u8],
-    run: &mut [u32],
-    notes: &[u16],
-) -> usize
-    ensures result_after { (p : Proto) (vs : List Value) → Held p loaded.head words.now nested.now nups.now lines.now → run_numbers ≤ length run.old → notes.now ≡ notes_of p
+fn put_whole(out: &mut [u8], s: &[u8], loaded: Loaded, run: &mut [u32], drawn: &Drawn) -> usize
+    ensures result_after { (p : Proto) (vs : List Value) → Draws p drawn.now → run_numbers ≤ length run.old
         → AreRead s.now (places_from s.now loaded.first loaded.constants) vs
         → output out.new result ≡ printed true out.old (listing p vs) }
     ensures anyway { Leaves true out.old out.new result }
 {
     let mut none = [0u8; 0];
-    let length = put_loaded(
-        &mut none, 0, s, loaded, words, nested, nups, lines, run, notes,
-    );
+    let mut counted = Output::new(&mut none);
+    put_loaded(&mut counted, s, loaded, run, drawn);
+    let length = counted.at;
     if out.len() < length {
         return length;
     }
-    put_loaded(out, 0, s, loaded, words, nested, nups, lines, run, notes);
+    let mut stored = Output::new(out);
+    put_loaded(&mut stored, s, loaded, run, drawn);
     length
 }
 
@@ -83,23 +63,28 @@ fn put_listing(
     s: &[u8],
     loaded: Loaded,
     whole: bool,
-    words: &[u32],
-    nested: &[u32],
-    nups: &[u8],
+    function: &View,
     lines: &[u8],
     run: &mut [u32],
     notes: &mut [u16],
 ) -> usize
-    ensures result_after { (p : Proto) (vs : List Value) → Held p loaded.head words.now nested.now nups.now lines.now → run_numbers ≤ length run.old → length notes.old ≡ 3 * (size p + 1)
+    ensures result_after { (p : Proto) (vs : List Value) → Held p function.now lines.now → run_numbers ≤ length run.old → length notes.old ≡ 3 * (size p + 1)
         → AreRead s.now (places_from s.now loaded.first loaded.constants) vs
         → output out.new result ≡ printed whole out.old (listing p vs) }
     ensures anyway { Leaves whole out.old out.new result }
 {
-    note_graph(words, notes);
+    note_graph(function.words, notes);
+    let drawn = Drawn {
+        function: *function,
+        lines,
+        notes,
+    };
     if whole {
-        return put_whole(out, s, loaded, words, nested, nups, lines, run, notes);
+        return put_whole(out, s, loaded, run, &drawn);
     }
-    put_loaded(out, 0, s, loaded, words, nested, nups, lines, run, notes)
+    let mut printed = Output::new(out);
+    put_loaded(&mut printed, s, loaded, run, &drawn);
+    printed.at
 }
 
 // Prints the listing of function f of a chunk from the output's start, its words put back by the inverse of a table. The room for its words
@@ -140,22 +125,26 @@ fn put_in(
     let lines = loaded.lines;
     let locals = loaded.locals;
     let noted = PARTS * (n + 1);
+    let function = View {
+        head: loaded.head,
+        words: &words[..n],
+        nested: &nested[..inner],
+        nups: &nups[..inner],
+    };
     put_listing(
         out,
         s,
         loaded,
         whole,
-        &words[..n],
-        &nested[..inner],
-        &nups[..inner],
+        &function,
         &s[lines..locals],
         run,
         &mut notes[..noted],
     )
 }
 
-// Prints the listing of a function of few words.
-fn put_short(
+// Prints the listing of a function of at most WORDS words, in room for so many and for their NOTES notes.
+fn put_with<const WORDS: usize, const NOTES: usize>(
     out: &mut [u8],
     s: &[u8],
     functions: Functions,
@@ -164,37 +153,21 @@ fn put_short(
     whole: bool,
     run: &mut [u32],
 ) -> usize
-    requires { length (proto_at s.now (held_of functions) f).words ≤ few_words }
+    requires few { WORDS ≤ most_words }
+    requires notes { NOTES ≡ 3 * (WORDS + 1) }
+    requires words { (end : ℕ) → walked (here end) (places_of functions) ≡ walk s.now → f < functions.count
+        → length (proto_at s.now (held_of functions) f).words ≤ WORDS }
     ensures { Lists (word_by inverse.now) s.now functions f whole run.old out.old out.new result }
 {
-    let mut words = [0u32; FEW_WORDS];
-    let mut notes = [0u16; FEW_NOTES];
-    put_in(
-        out, s, functions, f, inverse, whole, run, &mut words, &mut notes,
-    )
-}
-
-// Prints the listing of a function of any size.
-fn put_long(
-    out: &mut [u8],
-    s: &[u8],
-    functions: Functions,
-    f: u32,
-    inverse: &[u8],
-    whole: bool,
-    run: &mut [u32],
-) -> usize
-    ensures { Lists (word_by inverse.now) s.now functions f whole run.old out.old out.new result }
-{
-    let mut words = [0u32; MOST_WORDS];
-    let mut notes = [0u16; MOST_NOTES];
+    let mut words = [0u32; WORDS];
+    let mut notes = [0u16; NOTES];
     put_in(
         out, s, functions, f, inverse, whole, run, &mut words, &mut notes,
     )
 }
 
 // Prints the listing of function f of a chunk under a house table from the output's start, and gives its length. Where `whole` is set, an
-// output that is shorter stays as it was; else it gets the listing's beginning. Its statements are written into the buffer `run` first; what
+// output that is shorter stays as it was; else it gets the listing's beginning: the flag is the definition's (`printed`). Its statements are written into the buffer `run` first; what
 // that holds afterwards is of no use. Room for the function's words is made by their count, so that a small function costs little.
 pub fn put_function(
     out: &mut [u8],
@@ -209,7 +182,7 @@ pub fn put_function(
 {
     let inverse = inverse_of(table);
     if word_count(s, functions, f) <= FEW_WORDS {
-        return put_short(out, s, functions, f, &inverse, whole, run);
+        return put_with::<FEW_WORDS, FEW_NOTES>(out, s, functions, f, &inverse, whole, run);
     }
-    put_long(out, s, functions, f, &inverse, whole, run)
+    put_with::<MOST_WORDS, MOST_NOTES>(out, s, functions, f, &inverse, whole, run)
 }

@@ -2,77 +2,56 @@
 // upvalues, globals and tables.
 #![tactic(auto)]
 
-ghost use Rattle.std.specs.Prelude.{ℕ, ◌≤◌, ◌<◌, ◌≡◌, length};
+ghost use Rattle.std.specs.Prelude.{ℕ, ◌≤◌, ◌<◌, length};
 ghost use Rattle.lua51_instruction.specs.Word.{op_of, number_of, SELF};
 ghost use Rattle.lua51_instruction.specs.Proto.{Proto, word};
 ghost use Rattle.lua51_instruction.specs.Instruction.{FieldsOf};
 ghost use Rattle.ast.specs.Statement.{register, index, one, assign, set_register};
 ghost use Rattle.ast.specs.Statement as ast;
-ghost use Rattle.ast.specs.Buffer.{buffer, adds, Writes};
+ghost use Rattle.ast.specs.Written.{Adds, Wrote};
 ghost use Rattle.lua51_lifter.specs.Lift.{rk, statements_by};
 ghost use Rattle.lua51_runs.specs.Runs.{run_at};
 
-use ast::{ASSIGN, BOOLEAN, CONSTANT, GLOBAL, INDEX, NIL, REGISTER, TABLE, UPVALUE, push_all};
+use ast::{ASSIGN, BOOLEAN, CONSTANT, GLOBAL, INDEX, NIL, REGISTER, Run, TABLE, UPVALUE};
 use lua51_instruction::instruction::Fields;
 use lua51_instruction::op;
-use lua51_runs::operands::operand;
+use lua51_runs::operands::push_operand;
 use lua51_runs::registers::set_register;
 
 // Writes 'R(A) gets R(B)[RK(C)]'.
-fn get_table(run: &mut [u32], w: Fields) -> usize
-    ensures { buffer run.new result
-        ≡ adds (buffer run.old 0) (ast.run (set_register w.a (index (register w.b) (rk w.c)))) }
+fn get_table(run: &mut Run, w: Fields)
+    ensures { Adds run.old run.new (ast.run (set_register w.a (index (register w.b) (rk w.c)))) }
 {
-    let key = operand(w.c);
-    set_register(
-        run,
-        w.a as u32,
-        &[INDEX, REGISTER, w.b as u32, key.kind, key.number],
-    )
+    set_register(run, w.a as u32, &[INDEX, REGISTER, w.b as u32]);
+    push_operand(run, w.c);
 }
 
 // Writes 'R(A)[RK(B)] gets RK(C)'.
-fn set_table(run: &mut [u32], w: Fields) -> usize
-    ensures { buffer run.new result
-        ≡ adds (buffer run.old 0) (ast.run (assign (one (index (register w.a) (rk w.b))) (one (rk w.c)))) }
+fn set_table(run: &mut Run, w: Fields)
+    ensures { Adds run.old run.new (ast.run (assign (one (index (register w.a) (rk w.b))) (one (rk w.c)))) }
 {
-    let key = operand(w.b);
-    let value = operand(w.c);
-    push_all(
-        run,
-        0,
-        &[
-            ASSIGN,
-            1,
-            1,
-            INDEX,
-            REGISTER,
-            w.a as u32,
-            key.kind,
-            key.number,
-            value.kind,
-            value.number,
-        ],
-    )
+    run.push_all(&[ASSIGN, 1, 1, INDEX, REGISTER, w.a as u32]);
+    push_operand(run, w.b);
+    push_operand(run, w.c);
 }
 
 // Writes statement k of SELF: R(A+1) gets R(B), then R(A) gets R(B)[RK(C)].
-fn self_statement(run: &mut [u32], w: Fields, k: u16) -> usize
+fn self_statement(run: &mut Run, w: Fields, k: u16)
     ensures result_after { (p : Proto) (i : ℕ) → FieldsOf (word p i) w → k < 2
-        → buffer run.new result ≡ adds (buffer run.old 0) (run_at (statements_by p i SELF) k) }
-    ensures anyway { Writes (buffer run.old 0) (buffer run.new result) }
+        → Adds run.old run.new (run_at (statements_by p i SELF) k) }
+    ensures anyway { Wrote run.old run.new }
 {
     if k == 0 {
         return set_register(run, w.a as u32 + 1, &[REGISTER, w.b as u32]);
     }
-    get_table(run, w)
+    get_table(run, w);
 }
 
 // Writes statement k of an opcode from MOVE to SELF. For any other word it writes some numbers.
-pub fn assignment(run: &mut [u32], w: Fields, k: u16) -> usize
+pub fn assignment(run: &mut Run, w: Fields, k: u16)
     ensures result_after { (p : Proto) (i : ℕ) → FieldsOf (word p i) w → w.opcode ≤ number_of SELF → k < length (statements_by p i (op_of w.opcode))
-        → buffer run.new result ≡ adds (buffer run.old 0) (run_at (statements_by p i (op_of w.opcode)) k) }
-    ensures anyway { Writes (buffer run.old 0) (buffer run.new result) }
+        → Adds run.old run.new (run_at (statements_by p i (op_of w.opcode)) k) }
+    ensures anyway { Wrote run.old run.new }
 {
     let a = w.a as u32;
     let b = w.b as u32;
@@ -85,8 +64,8 @@ pub fn assignment(run: &mut [u32], w: Fields, k: u16) -> usize
         op::GETUPVAL => set_register(run, a, &[UPVALUE, b]),
         op::GETGLOBAL => set_register(run, a, &[GLOBAL, w.bx]),
         op::GETTABLE => get_table(run, w),
-        op::SETGLOBAL => push_all(run, 0, &[ASSIGN, 1, 1, GLOBAL, w.bx, REGISTER, a]),
-        op::SETUPVAL => push_all(run, 0, &[ASSIGN, 1, 1, UPVALUE, b, REGISTER, a]),
+        op::SETGLOBAL => run.push_all(&[ASSIGN, 1, 1, GLOBAL, w.bx, REGISTER, a]),
+        op::SETUPVAL => run.push_all(&[ASSIGN, 1, 1, UPVALUE, b, REGISTER, a]),
         op::SETTABLE => set_table(run, w),
         op::NEWTABLE => set_register(run, a, &[TABLE]),
         _ => self_statement(run, w, k),

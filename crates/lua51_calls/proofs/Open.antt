@@ -9,8 +9,6 @@ use borrow.Author.Tests.{eq-eqb, ne_eqb, eqb-true}
 use Rattle.lua51_instruction.specs.Word.{VARARG, number_of}
 use Rattle.lua51_instruction.specs.Proto.{Proto, word, opcode, is, arg_a, arg_b}
 use Rattle.ast.specs.Statement.{Expr, Exprs, vararg, call, register, registers, []ᵉ, one, count, expr, exprs}
-use Rattle.ast.specs.Buffer.{Buffer, adds}
-use Rattle.ast.proofs.Adds.{adds_append}
 use Rattle.ast.proofs.Registers.{exprs_registers, count_registers}
 use Rattle.lua51_lifter.specs.Lift.{open_results, taken}
 use Rattle.lua51_calls.specs.Calls.{below, open_call_numbers, results_alone}
@@ -64,9 +62,9 @@ module _ (p : Proto) where
       rw (ne_eqb _ _ not, eq-eqb _ _ none, before, tail_numbers_lem (arg_a p (suc j) + 1) (arg_a p j) (open_results p j))
 
   -- a call that takes the open results of the word before it
-  pub open_link : (b : Buffer) (j : ℕ) → 0 < j → (opcode p j ≡ number_of VARARG → ⊥) → arg_b p j ≡ 0
-      → adds b (expr (open_results p j)) ≡ adds (adds b (open_call_numbers (arg_a p j) (arg_a p (j - 1)))) (expr (open_results p (j - 1)))
-  open_link b zero some not none = absurd (omega arith)
-  open_link b (suc j) some not none =
+  pub open_link : (j : ℕ) → 0 < j → (opcode p j ≡ number_of VARARG → ⊥) → arg_b p j ≡ 0
+      → expr (open_results p j) ≡ open_call_numbers (arg_a p j) (arg_a p (j - 1)) ++ expr (open_results p (j - 1))
+  open_link zero some not none = absurd (omega arith)
+  open_link (suc j) some not none =
       let before : suc j - 1 ≡ j = omega arith in
-      rw (before, link_numbers j not none) (adds_append b (open_call_numbers (arg_a p (suc j)) (arg_a p j)) (expr (open_results p j)))
+      rw (before, link_numbers j not none)

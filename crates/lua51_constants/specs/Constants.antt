@@ -1,14 +1,13 @@
 -- The F and K lines by what the code holds: a function's head, and the places of its constants in the chunk.
 use Rattle.std.specs.Prelude.{ℕ, ◌+◌, ◌%◌, ◌^◌, ◌≤◌, ◌<◌, List, [], ◌∷◌, ◌++◌, ◌≡◌, length, get_or}
 use Rattle.lines.specs.Line.{line, letter_f, letter_k}
-use Rattle.lines.specs.Out.{Out, puts}
+use Rattle.lines.specs.Out.{Puts}
+use Rattle.lines.specs.declared.Output.{Output}
 use Rattle.lua51_value.specs.Value.{Value, kind_of, value_at}
 use Rattle.lua51_deserializer.specs.Chunk.{here, constant, most}
 use Rattle.lua51_value.specs.Value as values
 use Rattle.lua51_value.specs.Constant.{value_of, constant_at}
 use Rattle.lua51_function.specs.declared.function.Head.{Head}
-use Rattle.lua51_value.specs.declared.value.Constant.{Constant}
-use Rattle.lua51_value.specs.declared.value.Constant.TheVariants.{Nil, Boolean, Number, NotANumber, String}
 use Rattle.lua51_lifter.specs.Listing.{value, constant_lines}
 
 -- 'F: function, parameters, upvalues, stack.'
@@ -22,14 +21,6 @@ numbers_of v = kind_of v ∷ value v
 -- 'K per constant: index, kind, value'
 unfoldable pub constant_line : ℕ → Value → List ℕ
 constant_line i v = line letter_k (i ∷ numbers_of v)
-
--- how many bytes a string has; 0 for the other constants
-unfoldable pub size_of : Constant → ℕ
-size_of Nil = 0
-size_of (Boolean b) = 0
-size_of (Number x) = 0
-size_of (NotANumber n) = 0
-size_of (String at len) = len
 
 -- the value of the constant that is read at a place, be it one of a function or not
 abbrev pub read_at : List ℕ → ℕ → Value
@@ -45,9 +36,9 @@ place_lines s i [] = []
 place_lines s i (p ∷ ps) = constant_line (short i) (read_at s p) ++ place_lines s (i + 1) ps
 
 -- a printer of the constant at a place made o' of the output o; where a constant was read there, it printed its value
-pub record PrintsConstant (s : List ℕ) (i place : ℕ) (o o' : Out) : Type 0 where
-  pub answer : o' ≡ puts o (constant_line i (read_at s place))
-  pub meaning : (j : ℕ) → constant s place ≡ here j → o' ≡ puts o (constant_line i (value_at s place))
+pub record PrintsConstant (s : List ℕ) (i place : ℕ) (o o' : Output) : Type 0 where
+  pub answer : Puts o o' (constant_line i (read_at s place))
+  pub meaning : (j : ℕ) → constant s place ≡ here j → Puts o o' (constant_line i (value_at s place))
 
 -- at each of these places a constant was read, and vs are their values
 pub record AreRead (s places : List ℕ) (vs : List Value) : Type 0 where
@@ -58,6 +49,6 @@ pub record AreRead (s places : List ℕ) (vs : List Value) : Type 0 where
 
 -- a printer of the constants at these places made o' of the output o; where constants were read there, it printed their
 -- values
-pub record PrintsConstants (s places : List ℕ) (o o' : Out) : Type 0 where
-  pub answer : o' ≡ puts o (place_lines s 0 places)
-  pub meaning : (vs : List Value) → AreRead s places vs → o' ≡ puts o (constant_lines 0 vs)
+pub record PrintsConstants (s places : List ℕ) (o o' : Output) : Type 0 where
+  pub answer : Puts o o' (place_lines s 0 places)
+  pub meaning : (vs : List Value) → AreRead s places vs → Puts o o' (constant_lines 0 vs)

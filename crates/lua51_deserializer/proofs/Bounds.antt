@@ -12,10 +12,8 @@ use Rattle.lua51_value.specs.Bytes.{byte_at, int_at}
 use Rattle.lua51_deserializer.specs.Chunk.{byte_to, count_to, counted, body, string, present, constant_of, constant}
 use Rattle.lua51_deserializer.specs.Chunk.{head, code, constants, lines, locals, names, Place, Walk, walked}
 use Rattle.lua51_deserializer.specs.Chunk.{◌next◌, many, begin, nest, finish, function, exactly, signature, most}
-use Rattle.lua51_deserializer.specs.Chunk.{most_words, most_flags, most_functions, most_bytes, whole}
-use Rattle.lua51_deserializer.specs.Cursor.{read_of, Bounded, Inside}
-use Rattle.lua51_deserializer.specs.Walked.{walk_of}
-use Rattle.lua51_deserializer.specs.declared.chunk.Walked.{Walked}
+use Rattle.lua51_deserializer.specs.Chunk.{most_words, most_flags, most_functions, whole}
+use Rattle.lua51_deserializer.specs.Cursor.{Bounded}
 
 then_bounded : (n : ℕ) (r : Read) (f : ℕ → Read) → Bounded n r → ((i : ℕ) → i ≤ n → Bounded n (f i))
     → Bounded n (r then f)
@@ -154,7 +152,9 @@ module _ (s : List ℕ) where
           (λ qs j l. finish_bounded (length ps) qs j)
       one false g = omega arith
 
-  -- what is known of a walk that the code has
-  pub inside : (w : Walked) (v : Walk) → walk_of w ≡ v → length s ≤ most_bytes → Bounded (length s) v.read
-      → Inside s (read_of w.cursor)
-  inside w v e short h = record { short = short; reached = subst (λ (x : Walk). Bounded (length s) x.read) (sym e) h }
+  -- where a reading stands, and a walk
+  pub read_inside : {i : ℕ} {r : Read} → here i ≡ r → Bounded (length s) r → i ≤ length s
+  read_inside e h = subst (Bounded (length s)) (sym e) h
+
+  pub walk_inside : {i : ℕ} {qs : List Place} {w : Walk} → walked (here i) qs ≡ w → Bounded (length s) w.read → i ≤ length s
+  walk_inside e h = subst (λ (x : Walk). Bounded (length s) x.read) (sym e) h

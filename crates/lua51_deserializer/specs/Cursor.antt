@@ -1,12 +1,8 @@
 -- The numbers and places of document 01 for what the readers of fields answer.
-use Rattle.std.specs.Prelude.{ℕ, ◌≤◌, length, List}
-use Rattle.lua51_deserializer.specs.Chunk.{Read, here, refused, ◌then◌, field, string, constant, most_bytes}
-use Rattle.lua51_deserializer.specs.declared.fields.Cursor.{Cursor}
-use Rattle.lua51_deserializer.specs.declared.fields.Cursor.TheVariants.{Here, Refused}
+use Rattle.std.specs.Prelude.{ℕ, ◌≤◌, length, List, Result, Ok, Err}
+use Rattle.lua51_deserializer.specs.Chunk.{Read, here, refused, ◌then◌, field, string, most_bytes}
 use Rattle.lua51_deserializer.specs.declared.fields.ChunkFault.{ChunkFault}
 use Rattle.lua51_deserializer.specs.declared.fields.ChunkFault.TheVariants.{TooLong, HeaderDiffers, Ended, OutOfRange, TooManyFunctions, LeftOver}
-use Rattle.lua51_deserializer.specs.declared.fields.Element.{Element}
-use Rattle.lua51_deserializer.specs.declared.fields.Element.TheVariants.{Constant, Local, Name}
 
 -- the number of each fault of a chunk's bytes
 abbrev pub chunk_fault_number : ChunkFault → ℕ
@@ -27,15 +23,13 @@ chunk_fault_place (TooManyFunctions i) = i
 chunk_fault_place (LeftOver i) = i
 
 -- 'Each gives number, function, place.'
-abbrev pub read_of : Cursor → Read
-read_of (Here i) = here i
-read_of (Refused f) = refused (chunk_fault_number f) (chunk_fault_place f)
+abbrev pub read_of : Result ℕ ChunkFault → Read
+read_of (Ok i) = here i
+read_of (Err f) = refused (chunk_fault_number f) (chunk_fault_place f)
 
--- what reads one element of a counted list: a constant, a local ('string and two 4-byte numbers'), a name
-abbrev pub element_of : List ℕ → Element → ℕ → Read
-element_of s Constant = constant s
-element_of s Local = λ i. string s i then field s 4 then field s 4
-element_of s Name = string s
+-- a local: 'string and two 4-byte numbers'
+abbrev pub local : List ℕ → ℕ → Read
+local s i = string s i then field s 4 then field s 4
 
 -- a reading that stands at most at n; of a refusal nothing is asked
 abbrev pub Bounded : ℕ → Read → Type 0

@@ -1,19 +1,12 @@
-// The fields of a chunk, in the order of Lua 5.1's ldump.c. Each reader goes on from a cursor and gives the cursor behind its
-// field; a refusal passes through unchanged.
-ghost use Rattle.std.specs.Prelude.{◌≡◌, ◌+◌, ◌-◌, ◌/◌, leb, length};
-ghost use Rattle.lua51_deserializer.specs.Chunk.{◌then◌, again, offset, field, limited, byte_to, count_to, counted, body, string, present, constant, head, code, constants, lines, locals, names};
-ghost use Rattle.lua51_deserializer.specs.Cursor.{read_of, element_of};
+// The fields of a chunk, in the order of Lua 5.1's ldump.c. Each reader reads the field at an offset and gives the offset behind it, or
+// what is wrong with the bytes.
+ghost use Rattle.std.specs.Prelude.{◌≡◌, ◌+◌, ◌-◌, ◌/◌, ◌^◌, ◌<◌, ℕ, Result, leb, length};
+ghost use Rattle.lua51_deserializer.specs.Chunk.{Read, again, field, limited, byte_to, count_to, counted, body, string, present, constant, head, code, constants, lines, locals, names};
+ghost use Rattle.lua51_deserializer.specs.Cursor.{read_of, local};
 
-use basics::slices::byte_at;
+use basics::slices::at_or;
 use lua51_value::bytes::int_at;
 use lua51_value::value::{KIND_BOOLEAN, KIND_NIL, KIND_NUMBER, KIND_STRING};
-
-// Where the next field stands, or what is wrong with the bytes.
-#[derive(Clone, Copy)]
-pub enum Cursor {
-    Here(usize),
-    Refused(ChunkFault),
-}
 
 // What is wrong with a chunk's bytes: refusals 1 to 6, each with its place.
 #[derive(Clone, Copy)]
@@ -30,24 +23,6 @@ pub enum ChunkFault {
     TooManyFunctions(usize),
     // 6: bytes are left over
     LeftOver(usize),
-}
-
-// The offset that a cursor stands at; 0 where it is a refusal.
-pub fn offset_of(c: Cursor) -> usize
-    ensures { result ≡ offset (read_of c) }
-{
-    let Cursor::Here(at) = c else {
-        return 0;
-    };
-    at
-}
-
-// What a counted list is made of, where it is not numbers.
-#[derive(Clone, Copy)]
-pub enum Element {
-    Constant,
-    Local,
-    Name,
 }
 
 // Sizes of fields.
@@ -70,257 +45,226 @@ const MOST_BOOLEAN: u32 = 1;
 pub fn whole(s: &[u8], at: usize, size: usize) -> bool
     ensures { result ≡ leb (at + size) (length s.now) }
 {
-    if s.len() < at {
-        return false;
-    }
-    size <= s.len() - at
+    at <= s.len() && size <= s.len() - at
 }
 
 // A field of `size` bytes, of any content.
-pub fn field(s: &[u8], c: Cursor, size: usize) -> Cursor
-    ensures { read_of result ≡ (read_of c then field s.now size) }
+#[tactic(auto, unfolding(crate::specs::Chunk::field))]
+pub fn field(s: &[u8], at: usize, size: usize) -> Result<usize, ChunkFault>
+    ensures { read_of result ≡ field s.now size at }
 {
-    let Cursor::Here(at) = c else {
-        return c;
-    };
     if whole(s, at, size) {
-        return Cursor::Here(at + size);
+        return Ok(at + size);
     }
-    Cursor::Refused(ChunkFault::Ended(at))
+    Err(ChunkFault::Ended(at))
 }
 
 // A field of `size` bytes whose value may not be above a limit.
-pub fn limited(s: &[u8], c: Cursor, size: usize, limit: u32, value: u32) -> Cursor
-    ensures { read_of result ≡ (read_of c then limited s.now size limit value) }
+#[tactic(auto, using(crate::proofs::FieldsInTurn::limited_in_turn))]
+pub fn limited(
+    s: &[u8],
+    at: usize,
+    size: usize,
+    limit: u32,
+    value: u32,
+) -> Result<usize, ChunkFault>
+    ensures { read_of result ≡ limited s.now size limit value at }
 {
-    let Cursor::Here(at) = c else {
-        return c;
-    };
-    if whole(s, at, size) {
-        if limit < value {
-            return Cursor::Refused(ChunkFault::OutOfRange(at));
-        }
-        return Cursor::Here(at + size);
+    let behind = field(s, at, size)?;
+    if limit < value {
+        return Err(ChunkFault::OutOfRange(at));
     }
-    Cursor::Refused(ChunkFault::Ended(at))
+    Ok(behind)
 }
 
 // A byte that may not be above a limit.
-pub fn byte_to(s: &[u8], c: Cursor, limit: u32) -> Cursor
-    ensures { read_of result ≡ (read_of c then byte_to s.now limit) }
+pub fn byte_to(s: &[u8], at: usize, limit: u32) -> Result<usize, ChunkFault>
+    ensures { read_of result ≡ byte_to s.now limit at }
 {
-    let Cursor::Here(at) = c else {
-        return c;
-    };
-    limited(s, c, BYTE_SIZE, limit, byte_at(s, at) as u32)
+    limited(s, at, BYTE_SIZE, limit, u32::from(at_or(s, at, 0)))
 }
 
 // A count, or a string's size, that may not be above a limit.
-pub fn count_to(s: &[u8], c: Cursor, limit: u32) -> Cursor
-    ensures { read_of result ≡ (read_of c then count_to s.now limit) }
+pub fn count_to(s: &[u8], at: usize, limit: u32) -> Result<usize, ChunkFault>
+    ensures { read_of result ≡ count_to s.now limit at }
 {
-    let Cursor::Here(at) = c else {
-        return c;
-    };
-    limited(s, c, INT_SIZE, limit, int_at(s, at))
+    limited(s, at, INT_SIZE, limit, int_at(s, at))
 }
 
 // A string's `size` bytes, the last of them 0; none where it is absent.
-pub fn body(s: &[u8], c: Cursor, size: usize) -> Cursor
-    ensures { read_of result ≡ (read_of c then body s.now size) }
+#[tactic(auto, using(crate::proofs::FieldsInTurn::body_in_turn), unfolding(crate::specs::Chunk::body))]
+pub fn body(s: &[u8], at: usize, size: usize) -> Result<usize, ChunkFault>
+    ensures { read_of result ≡ body s.now size at }
 {
-    let Cursor::Here(at) = c else {
-        return c;
-    };
     if size == 0 {
-        return Cursor::Here(at);
+        return Ok(at);
     }
-    if whole(s, at, size) {
-        let last = byte_at(s, at + (size - 1));
-        if last != 0 {
-            return Cursor::Refused(ChunkFault::OutOfRange(at));
-        }
-        return Cursor::Here(at + size);
+    let behind = field(s, at, size)?;
+    let last = at_or(s, at + (size - 1), 0);
+    if last != 0 {
+        return Err(ChunkFault::OutOfRange(at));
     }
-    Cursor::Refused(ChunkFault::Ended(at))
+    Ok(behind)
 }
 
 // A string, which may be absent: its size and its body.
-pub fn string(s: &[u8], c: Cursor) -> Cursor
-    ensures { read_of result ≡ (read_of c then string s.now) }
+#[tactic(auto, unfolding(crate::specs::Chunk::string))]
+pub fn string(s: &[u8], at: usize) -> Result<usize, ChunkFault>
+    ensures { read_of result ≡ string s.now at }
 {
-    let Cursor::Here(at) = c else {
-        return c;
-    };
-    body(s, count_to(s, c, MOST), int_at(s, at) as usize)
+    let text = count_to(s, at, MOST)?;
+    body(s, text, int_at(s, at) as usize)
 }
 
 // A string that may not be absent.
-pub fn present(s: &[u8], c: Cursor) -> Cursor
-    ensures { read_of result ≡ (read_of c then present s.now) }
+#[tactic(auto, using(crate::proofs::FieldsInTurn::present_in_turn))]
+pub fn present(s: &[u8], at: usize) -> Result<usize, ChunkFault>
+    ensures { read_of result ≡ present s.now at }
 {
-    let Cursor::Here(at) = c else {
-        return c;
-    };
-    if whole(s, at, INT_SIZE) {
-        if int_at(s, at) == 0 {
-            return Cursor::Refused(ChunkFault::OutOfRange(at));
-        }
-        return string(s, c);
+    field(s, at, INT_SIZE)?;
+    if int_at(s, at) == 0 {
+        return Err(ChunkFault::OutOfRange(at));
     }
-    Cursor::Refused(ChunkFault::Ended(at))
+    string(s, at)
 }
 
 // A constant: its kind and what is behind it.
-pub fn constant(s: &[u8], c: Cursor) -> Cursor
-    ensures { read_of result ≡ (read_of c then constant s.now) }
+#[tactic(auto, using(crate::proofs::FieldsInTurn::constant_in_turn))]
+pub fn constant(s: &[u8], at: usize) -> Result<usize, ChunkFault>
+    ensures { read_of result ≡ constant s.now at }
 {
-    let Cursor::Here(at) = c else {
-        return c;
-    };
-    if s.len() <= at {
-        return Cursor::Refused(ChunkFault::Ended(at));
+    let behind = field(s, at, BYTE_SIZE)?;
+    match at_or(s, at, 0) {
+        KIND_NIL => Ok(behind),
+        KIND_BOOLEAN => byte_to(s, behind, MOST_BOOLEAN),
+        KIND_NUMBER => field(s, behind, NUMBER_SIZE),
+        KIND_STRING => present(s, behind),
+        _ => Err(ChunkFault::OutOfRange(at)),
     }
-    let kind = s[at];
-    let behind = Cursor::Here(at + 1);
-    if kind == KIND_NIL {
-        return behind;
-    }
-    if kind == KIND_BOOLEAN {
-        return byte_to(s, behind, MOST_BOOLEAN);
-    }
-    if kind == KIND_NUMBER {
-        return field(s, behind, NUMBER_SIZE);
-    }
-    if kind == KIND_STRING {
-        return present(s, behind);
-    }
-    Cursor::Refused(ChunkFault::OutOfRange(at))
 }
 
 // A local variable: its name and two lines.
-pub fn local(s: &[u8], c: Cursor) -> Cursor
-    ensures { read_of result ≡ (read_of c then element_of s.now Element.Local) }
+pub fn local(s: &[u8], at: usize) -> Result<usize, ChunkFault>
+    ensures { read_of result ≡ local s.now at }
 {
-    field(s, field(s, string(s, c), INT_SIZE), INT_SIZE)
+    let first_line = string(s, at)?;
+    let last_line = field(s, first_line, INT_SIZE)?;
+    field(s, last_line, INT_SIZE)
 }
 
-// One element of a counted list.
-pub fn next_element(s: &[u8], c: Cursor, of: Element) -> Cursor
-    ensures { read_of result ≡ (read_of c then element_of s.now of) }
+// `n` elements from an offset on, each read by `element`.
+pub fn elements<F: Fn(usize) -> Result<usize, ChunkFault>>(
+    at: usize,
+    n: u32,
+    element: F,
+) -> Result<usize, ChunkFault>
+    ghost reads: { ℕ → Read }
+    requires callable { F.IsAlwaysCallable element }
+    requires answers { (i : ℕ) (r : Result ℕ ChunkFault) → i < 2 ^ 64 → F.post element i r → read_of r ≡ reads i }
+    ensures { read_of result ≡ again reads n at }
 {
-    match of {
-        Element::Constant => constant(s, c),
-        Element::Local => local(s, c),
-        Element::Name => string(s, c),
+    let mut reached = at;
+    for i in 0..n {
+        reached = element(reached)?;
     }
+    Ok(reached)
 }
 
-// `n` elements.
-pub fn elements(s: &[u8], c: Cursor, of: Element, n: u32) -> Cursor
-    ensures { read_of result ≡ (read_of c then again (element_of s.now of) n) }
+// A counted list, each element of it read by `element`.
+#[tactic(auto, unfolding(crate::specs::Chunk::counted))]
+pub fn counted<F: Fn(usize) -> Result<usize, ChunkFault>>(
+    s: &[u8],
+    at: usize,
+    limit: u32,
+    element: F,
+) -> Result<usize, ChunkFault>
+    ghost reads: { ℕ → Read }
+    requires callable { F.IsAlwaysCallable element }
+    requires answers { (i : ℕ) (r : Result ℕ ChunkFault) → i < 2 ^ 64 → F.post element i r → read_of r ≡ reads i }
+    ensures { read_of result ≡ counted s.now limit reads at }
 {
-    let mut read = c;
-    let mut i: u32 = 0;
-    while i < n {
-        read = next_element(s, read, of);
-        let Cursor::Here(_) = read else {
-            return read;
-        };
-        i += 1;
-    }
-    read
-}
-
-// A counted list.
-pub fn counted(s: &[u8], c: Cursor, limit: u32, of: Element) -> Cursor
-    ensures { read_of result ≡ (read_of c then counted s.now limit (element_of s.now of)) }
-{
-    let Cursor::Here(at) = c else {
-        return c;
-    };
-    elements(s, count_to(s, c, limit), of, int_at(s, at))
+    let first = count_to(s, at, limit)?;
+    elements(first, int_at(s, at), element)
 }
 
 // How many 4-byte numbers are whole from offset `at` on.
 fn numbers_left(s: &[u8], at: usize) -> usize
     ensures { result ≡ (length s.now - at) / 4 }
 {
-    if s.len() < at {
-        return 0;
-    }
-    (s.len() - at) / INT_SIZE
+    s.len().saturating_sub(at) / INT_SIZE
 }
 
 // `n` numbers, of any content; the first that is not whole is refused.
-fn numbers(s: &[u8], c: Cursor, n: u32) -> Cursor
-    ensures { read_of result ≡ (read_of c then again (field s.now 4) n) }
+fn numbers(s: &[u8], at: usize, n: u32) -> Result<usize, ChunkFault>
+    ensures { read_of result ≡ again (field s.now 4) n at }
 {
-    let Cursor::Here(at) = c else {
-        return c;
-    };
     let count = n as usize;
     let left = numbers_left(s, at);
     if left < count {
-        return Cursor::Refused(ChunkFault::Ended(at + INT_SIZE * left));
+        return Err(ChunkFault::Ended(at + INT_SIZE * left));
     }
-    Cursor::Here(at + INT_SIZE * count)
+    Ok(at + INT_SIZE * count)
 }
 
 // A counted list of numbers.
-fn counted_numbers(s: &[u8], c: Cursor, limit: u32) -> Cursor
-    ensures { read_of result ≡ (read_of c then counted s.now limit (field s.now 4)) }
+#[tactic(auto, unfolding(crate::specs::Chunk::counted))]
+fn counted_numbers(s: &[u8], at: usize, limit: u32) -> Result<usize, ChunkFault>
+    ensures { read_of result ≡ counted s.now limit (field s.now 4) at }
 {
-    let Cursor::Here(at) = c else {
-        return c;
-    };
-    numbers(s, count_to(s, c, limit), int_at(s, at))
+    let first = count_to(s, at, limit)?;
+    numbers(s, first, int_at(s, at))
 }
 
 // What a function begins with: its source, two lines, upvalues, parameters, flags and stack.
-pub fn head(s: &[u8], c: Cursor) -> Cursor
-    ensures { read_of result ≡ (read_of c then head s.now) }
+#[tactic(auto, unfolding(crate::specs::Chunk::head))]
+pub fn head(s: &[u8], at: usize) -> Result<usize, ChunkFault>
+    ensures { read_of result ≡ head s.now at }
 {
-    let source = string(s, c);
-    let first_line = field(s, source, INT_SIZE);
-    let last_line = field(s, first_line, INT_SIZE);
-    let upvalues = field(s, last_line, BYTE_SIZE);
-    let parameters = field(s, upvalues, BYTE_SIZE);
-    let flags = byte_to(s, parameters, MOST_FLAGS);
-    field(s, flags, BYTE_SIZE)
+    let first_line = string(s, at)?;
+    let last_line = field(s, first_line, INT_SIZE)?;
+    let upvalues = field(s, last_line, INT_SIZE)?;
+    let parameters = field(s, upvalues, BYTE_SIZE)?;
+    let flags = field(s, parameters, BYTE_SIZE)?;
+    let stack = byte_to(s, flags, MOST_FLAGS)?;
+    field(s, stack, BYTE_SIZE)
 }
 
 // A function's words.
-pub fn code(s: &[u8], c: Cursor) -> Cursor
-    ensures { read_of result ≡ (read_of c then code s.now) }
+#[tactic(auto, unfolding(crate::specs::Chunk::code))]
+pub fn code(s: &[u8], at: usize) -> Result<usize, ChunkFault>
+    ensures { read_of result ≡ code s.now at }
 {
-    counted_numbers(s, c, MOST_WORDS)
+    counted_numbers(s, at, MOST_WORDS)
 }
 
-// A function's constants.
-pub fn constants(s: &[u8], c: Cursor) -> Cursor
-    ensures { read_of result ≡ (read_of c then constants s.now) }
+// A function's constants. (What is read in turn has functions of one line each: their names are the definition's.)
+#[tactic(auto, unfolding(crate::specs::Chunk::constants))]
+pub fn constants(s: &[u8], at: usize) -> Result<usize, ChunkFault>
+    ensures { read_of result ≡ constants s.now at }
 {
-    counted(s, c, MOST, Element::Constant)
+    counted(s, at, MOST, |i| constant(s, i))
 }
 
 // The source lines of a function's words.
-pub fn lines(s: &[u8], c: Cursor) -> Cursor
-    ensures { read_of result ≡ (read_of c then lines s.now) }
+#[tactic(auto, unfolding(crate::specs::Chunk::lines))]
+pub fn lines(s: &[u8], at: usize) -> Result<usize, ChunkFault>
+    ensures { read_of result ≡ lines s.now at }
 {
-    counted_numbers(s, c, MOST)
+    counted_numbers(s, at, MOST)
 }
 
 // A function's local variables.
-pub fn locals(s: &[u8], c: Cursor) -> Cursor
-    ensures { read_of result ≡ (read_of c then locals s.now) }
+#[tactic(auto, unfolding(crate::specs::Chunk::locals))]
+pub fn locals(s: &[u8], at: usize) -> Result<usize, ChunkFault>
+    ensures { read_of result ≡ locals s.now at }
 {
-    counted(s, c, MOST, Element::Local)
+    counted(s, at, MOST, |i| local(s, i))
 }
 
 // The names of a function's upvalues.
-pub fn names(s: &[u8], c: Cursor) -> Cursor
-    ensures { read_of result ≡ (read_of c then names s.now) }
+#[tactic(auto, unfolding(crate::specs::Chunk::names))]
+pub fn names(s: &[u8], at: usize) -> Result<usize, ChunkFault>
+    ensures { read_of result ≡ names s.now at }
 {
-    counted(s, c, MOST, Element::Name)
+    counted(s, at, MOST, |i| string(s, i))
 }

@@ -6,13 +6,16 @@ use native.Mathlib.Numerals.{add-one}
 use native.Mathlib.Omega.{arith}
 use borrow.Author.Tests.{lt-ltb, le-ltb, lt-leb, eq-eqb, ne_eqb, ltb-false}
 use lib.Dec.{ltb}
-use lib.ListN.{length, get_or, take, drop, set, length-append, length-take, length-drop, drop_of_length-le, get_or-eq_default}
+use Rattle.std.proofs.Math.ListN.{get_or-map}
+use lib.ListN.{length-map, length, get_or, take, drop, set, length-append, length-take, length-drop, drop_of_length-le}
 use lib.Seq.{drop-cons, drop-drop, get_or-drop, take-suc, set_at, length-take-le, append_snoc}
 use Rattle.lua51_deserializer.specs.Chunk.{Place, nowhere, ints, offset, constant, values_at, nested_in, words_of, constants_of, constants_at, proto_at}
 use Rattle.lua51_value.specs.Bytes.{byte_at, int_at}
 use Rattle.lua51_value.specs.Value.{value_at, kind_of}
 use Rattle.lua51_value.specs.Constant.{within}
-use Rattle.lua51_deserializer.specs.Walked.{place_at}
+use Rattle.basics.specs.Range.{over, only}
+use Rattle.lua51_deserializer.specs.Walked.{place_of, place_at}
+use Rattle.lua51_deserializer.specs.declared.chunk.Place as kept
 use Rattle.lua51_function.specs.Function.{held_count, held_of, places_from, Filled, kind_at, constant_places}
 use Rattle.lua51_deserializer.specs.declared.chunk.Functions.{Functions}
 use Rattle.basics.proofs.Tests.{either_way}
@@ -174,23 +177,36 @@ module _ (f : ℕ → Place → ℕ) (me : ℕ) where
     unfolding nested_in
     nested_other h e = split_off h ∙ either_way (ltb 0 k) (λ t. rw (t, ne_eqb _ _ e)) (λ t. rw t)
 
+    pub nested_main : k ≤ 0 → nested_in f me k (drop k ps) ≡ nested_in f me (k + 1) (drop (k + 1) ps)
+    nested_main h = let z : k ≡ 0 = omega arith in rw z (nested_start ps)
+
     pub nested_none : length ps ≤ k → nested_in f me k (drop k ps) ≡ []
     unfolding nested_in
     nested_none h = rw (drop_of_length-le ps h)
 
 -- ------------------------------------------------------------ the table of functions
 
-module _ (t : Functions) (f : ℕ) where
-  pub held_length : length (held_of t) ≡ held_count t
-  held_length = over_length (place_at t.starts t.tails t.parents) 0 (held_count t)
+module _ (ps : List kept.Place) where
+  kept_from : (from n : ℕ) → from + n ≤ length ps → map place_of (take n (drop from ps)) ≡ over (λ f. only (place_at ps f)) from n
+  unfolding over
+  kept_from from zero h = refl
+  kept_from from (suc n) h =
+      let rest = kept_from (from + 1) n (omega arith) in
+      rw (drop-cons ps from (record { start = 0; tail = 0; parent = 0 }) (omega arith), ← add-one from) (λ i. place_at ps from ∷ rest i)
 
-  pub held_at : f < held_count t → get_or (held_of t) f nowhere ≡ place_at t.starts t.tails t.parents f
-  held_at h =
-      let z : 0 + f ≡ f = omega arith in
-      rw z at (over_at (place_at t.starts t.tails t.parents) 0 (held_count t) f nowhere h)
+pub held_length : (t : Functions) → length (held_of t) ≡ held_count t
+held_length t = over_length (place_at t.places) 0 (held_count t)
 
-  pub held_none : held_count t ≤ f → get_or (held_of t) f nowhere ≡ nowhere
-  held_none h = get_or-eq_default (held_of t) nowhere (omega (arith, held_length))
+pub held_are : (t : Functions) → length t.places ≡ 256 → map place_of (take (held_count t) t.places) ≡ held_of t
+held_are t h = kept_from t.places 0 (held_count t) (omega arith)
+
+-- the places that it holds, and one of them
+module _ (t : Functions) (qs : List kept.Place) (e : map place_of qs ≡ held_of t) where
+  pub held_count_is : length qs ≡ held_count t
+  held_count_is = sym (length-map qs place_of) ∙ (ap length e ∙ held_length t)
+
+  pub held_at : (k : ℕ) → get_or (held_of t) k nowhere ≡ place_of (get_or qs k (record { start = 0; tail = 0; parent = 0 }))
+  held_at k = rw (← e) (get_or-map place_of qs k (record { start = 0; tail = 0; parent = 0 }))
 
 -- ------------------------------------------------------------ a whole function
 

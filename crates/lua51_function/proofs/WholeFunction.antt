@@ -6,13 +6,15 @@ use native.Mathlib.Omega.{arith}
 use lib.ListN.{length, get_or, take, drop, length-map}
 use lib.Seq.{take_at, take-length}
 use Rattle.lua51_instruction.specs.Proto.{Proto, size, reworded}
-use Rattle.lua51_deserializer.specs.Chunk.{here, Place, Walk, nowhere, walk, constants_at, constants_of, proto_at}
+use Rattle.lua51_deserializer.specs.Chunk.{here, Place, Walk, nowhere, walked, walk, constants_at, constants_of, proto_at}
 use Rattle.lua51_value.specs.Value.{value_at, nil}
 use Rattle.lua51_value.specs.Bytes.{int_at}
-use Rattle.lua51_deserializer.specs.Walked.{places_of, walk_of}
+use Rattle.std.proofs.Common.{Result, Ok}
+use Rattle.lua51_deserializer.specs.Cursor.{read_of}
+use Rattle.lua51_deserializer.specs.Walked.{places_of}
+use Rattle.lua51_deserializer.specs.declared.chunk.Functions.{Functions}
+use Rattle.lua51_deserializer.specs.declared.fields.ChunkFault.{ChunkFault}
 use Rattle.lua51_function.specs.Function.{held_count, held_of, constant_places, Filled, Loads, WasRead, InLimits, Roomy, Holds, HoldsEach}
-use Rattle.lua51_deserializer.specs.declared.chunk.Walked.{Walked}
-use Rattle.lua51_deserializer.specs.declared.fields.Cursor.TheVariants.{Here}
 use Rattle.lua51_function.specs.declared.function.Head.{Head}
 use Rattle.lua51_function.specs.declared.function.Loaded.{Loaded}
 use Rattle.lua51_deserializer.proofs.Places.{places_length}
@@ -35,12 +37,13 @@ module _ {n room : ℕ} {xs before after : List ℕ} (h : Filled n room xs befor
       (sym (take_at (take n xs) (drop n before) n (rw (← whole_count) (ap length (take-length xs))) ∙ rw (← whole_count) (take-length xs)))
 
 -- the table of a chunk that is not refused holds each of its functions
-pub held_all : (s : List ℕ) (w : Walked) (at : ℕ) → walk_of w ≡ walk s → w.cursor ≡ Here at → held_of w.functions ≡ (walk s).places
-held_all s w at e c =
-    let places : places_of w.functions ≡ (walk s).places = ap (λ (v : Walk). v.places) e in
+pub held_all : (s : List ℕ) (end : Result ℕ ChunkFault) (t : Functions) (at : ℕ) → walked (read_of end) (places_of t) ≡ walk s → end ≡ Ok at
+    → held_of t ≡ (walk s).places
+held_all s end t at e c =
+    let places : places_of t ≡ (walk s).places = ap (λ (v : Walk). v.places) e in
     let read : (walk s).read ≡ here at = sym (ap (λ (v : Walk). v.read) e) ∙ rw c in
     let few = (whole_chunk s at read).functions in
-    let count : held_count w.functions ≡ w.functions.count = omega (arith, places_length w.functions, ap length places) in
+    let count : held_count t ≡ t.count = omega (arith, places_length t, ap length places) in
     rw count places
 
 -- the constants of a function are those at their places
@@ -86,9 +89,9 @@ module _ (back : ℕ → ℕ) (s : List ℕ) (ps : List Place) (f : ℕ) (r : Lo
       }
 
 pub holds_each : HoldsEach
-holds_each back s w at f r ws ws' ks ks' ns ns' us us' walked here_at below loads room =
+holds_each back s end t at f r ws ws' ks ks' ns ns' us us' walked here_at below loads room =
     let read : (walk s).read ≡ here at = sym (ap (λ (v : Walk). v.read) walked) ∙ rw here_at in
     let whole = whole_chunk s at read in
-    let inside : f < length (walk s).places = omega (arith, places_length w.functions, ap (λ (v : Walk). length v.places) walked) in
+    let inside : f < length (walk s).places = omega (arith, places_length t, ap (λ (v : Walk). length v.places) walked) in
     holds back s (walk s).places f r ws ws' ks ks' ns ns' us us' (whole.read f inside) (whole.limited f inside) room
-    (rw (held_all s w at walked here_at) at loads)
+    (rw (held_all s end t at walked here_at) at loads)

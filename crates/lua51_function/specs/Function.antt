@@ -1,16 +1,17 @@
 -- The function that the code holds as a head and lists of numbers, and what the buffers hold once it is read.
-use Rattle.std.specs.Prelude.{List, [], ◌∷◌, ◌++◌, map, ◌≡◌, ℕ, zero, suc, ◌+◌, ◌-◌, ◌*◌, ◌≤◌, ◌<◌, min, get_or, length, take, drop}
+use Rattle.std.specs.Prelude.{List, [], ◌∷◌, ◌++◌, map, ◌≡◌, ℕ, zero, suc, ◌+◌, ◌-◌, ◌*◌, ◌≤◌, ◌<◌, min, get_or, length, take, drop, Result, Ok}
 use Rattle.lua51_instruction.specs.Proto.{Proto, reworded, line_at}
-use Rattle.lua51_deserializer.specs.Chunk.{here, ◌then◌, offset, constant, head, code, constants, lines, locals, names, Place, nowhere, walk, bytes_of, words_of, constants_of, nested_in, proto_at, most, most_bytes, most_flags, most_functions, most_words, constants_at}
+use Rattle.lua51_deserializer.specs.Chunk.{here, ◌then◌, offset, constant, head, code, constants, lines, locals, names, Place, nowhere, walked, walk, bytes_of, words_of, constants_of, proto_at, most, most_bytes, most_flags, most_functions, most_words, constants_at}
 use Rattle.lua51_value.specs.Bytes.{byte_at, int_at}
 use Rattle.lua51_value.specs.Value.{kind_of, value_at, nil}
 use Rattle.lua51_value.specs.Constant.{within}
 use Rattle.basics.specs.Range.{over, only}
-use Rattle.lua51_deserializer.specs.Walked.{place_at, walk_of}
+use Rattle.lua51_deserializer.specs.Cursor.{read_of}
+use Rattle.lua51_deserializer.specs.Walked.{place_at, places_of}
 use Rattle.lua51_deserializer.specs.declared.chunk.Functions.{Functions}
-use Rattle.lua51_deserializer.specs.declared.chunk.Walked.{Walked}
-use Rattle.lua51_deserializer.specs.declared.fields.Cursor.TheVariants.{Here}
+use Rattle.lua51_deserializer.specs.declared.fields.ChunkFault.{ChunkFault}
 use Rattle.lua51_function.specs.declared.function.Head.{Head}
+use Rattle.lua51_function.specs.declared.function.View.{View}
 use Rattle.lua51_function.specs.declared.function.Loaded.{Loaded}
 
 -- p is the function whose head is h, and whose words (ws), kinds of constants (ks), numbers of nested functions (ns) and their
@@ -28,6 +29,10 @@ pub record Stands (p : Proto) (h : Head) (ws ks ns us : List ℕ) : Type 0 where
   pub nested : p.nested ≡ ns
   pub nups : p.nups ≡ us
 
+-- p is the function that is seen, whose constants are of the kinds ks
+abbrev pub Shows : Proto → List ℕ → View → Type 0
+Shows p ks v = Stands p v.head v.words.now ks v.nested.now v.nups.now
+
 -- ------------------------------------------------------------ the table of functions
 
 -- how many functions the table holds: those that have begun, and it has room for 256
@@ -36,7 +41,7 @@ held_count t = min t.count most_functions
 
 -- their places
 abbrev pub held_of : Functions → List Place
-held_of t = over (λ f. only (place_at t.starts t.tails t.parents f)) 0 (held_count t)
+held_of t = over (λ f. only (place_at t.places f)) 0 (held_count t)
 
 -- of a function that is nested in another, by its number and place: its number, and its count of upvalues
 abbrev pub number_in : ℕ → Place → ℕ
@@ -44,13 +49,6 @@ number_in k p = k
 
 abbrev pub upvalues_in : List ℕ → ℕ → Place → ℕ
 upvalues_in s k p = byte_at s (bytes_of s p.start)
-
--- r is the number of the first function from k on that is nested in `me`, or how many there are: from k on and from r on
--- the same functions are nested in `me`
-pub record NextNested (ps : List Place) (me k r : ℕ) : Type 0 where
-  pub from : k ≤ r
-  pub found : r < length ps → (get_or ps r nowhere).parent ≡ me
-  pub same : (f : ℕ → Place → ℕ) → nested_in f me k (drop k ps) ≡ nested_in f me r (drop r ps)
 
 -- ------------------------------------------------------------ a function's lists
 
@@ -189,7 +187,7 @@ Unrefused = (s : List ℕ) (j : ℕ) → (walk s).read ≡ here j → WholeChunk
 -- where a chunk was walked and is not refused, each of its functions that is loaded into buffers with room is held whole
 abbrev pub HoldsEach : Type 0
 HoldsEach =
-    (back : ℕ → ℕ) (s : List ℕ) (w : Walked) (at f : ℕ) (r : Loaded) (ws ws' ks ks' ns ns' us us' : List ℕ)
-    → walk_of w ≡ walk s → w.cursor ≡ Here at → f < w.functions.count
-    → Loads back s (held_of w.functions) f r ws ws' ks ks' ns ns' us us' → Roomy (proto_at s (walk s).places f) ws ns us
+    (back : ℕ → ℕ) (s : List ℕ) (end : Result ℕ ChunkFault) (t : Functions) (at f : ℕ) (r : Loaded) (ws ws' ks ks' ns ns' us us' : List ℕ)
+    → walked (read_of end) (places_of t) ≡ walk s → end ≡ Ok at → f < t.count
+    → Loads back s (held_of t) f r ws ws' ks ks' ns ns' us us' → Roomy (proto_at s (walk s).places f) ws ns us
     → Holds back s (walk s).places f r ws' ks' ns' us'

@@ -1,16 +1,16 @@
 // One function of a chunk, in plain buffers: its head by value, and its lists in arrays that the caller lends.
 ghost use Rattle.std.specs.Prelude.{◌≡◌, map, ◌+◌, min, get_or, length};
 ghost use Rattle.house_table.specs.House.{word_by};
-ghost use Rattle.lua51_deserializer.specs.Chunk.{ints, nowhere, bytes_of, words_of, constants_of, nested_in, proto_at};
+ghost use Rattle.lua51_deserializer.specs.Chunk.{ints, nowhere, offset, ◌then◌, lines, locals, bytes_of, words_of, constants_of, nested_in, proto_at};
 ghost use Rattle.lua51_value.specs.Bytes.{int_at};
+ghost use Rattle.lua51_deserializer.specs.Walked.{place_of};
 ghost use Rattle.lua51_value.specs.Constant.{within};
-ghost use Rattle.lua51_function.specs.Function.{held_count, held_of, number_in, upvalues_in, NextNested, places_from, kind_at, Filled, head_of, line_in, Loads};
+ghost use Rattle.lua51_function.specs.Function.{held_of, number_in, upvalues_in, places_from, kind_at, Filled, head_of, line_in, Loads};
 
-use basics::numbers::least;
-use basics::slices::byte_at;
+use basics::slices::at_or;
 use house_table::word_back;
-use lua51_deserializer::chunk::{Functions, MOST_FUNCTIONS};
-use lua51_deserializer::fields::{Cursor, INT_SIZE, constant, lines, locals, offset_of, string};
+use lua51_deserializer::chunk::{Functions, MOST_FUNCTIONS, NOWHERE, Place};
+use lua51_deserializer::fields::{INT_SIZE, constant, lines, locals, string};
 use lua51_value::bytes::{byte_behind, int_at};
 use lua51_value::value::{KIND_BOOLEAN, KIND_NIL, KIND_NUMBER, KIND_STRING, place_after};
 
@@ -26,6 +26,16 @@ pub struct Head {
     // how many word lines and upvalue names it has
     pub lines: u32,
     pub names: u32,
+}
+
+// A function as the printers of its statements see it: its head, its words, the numbers of its nested functions and their counts of
+// upvalues.
+#[derive(Clone, Copy)]
+pub struct View<'a> {
+    pub head: Head,
+    pub words: &'a [u32],
+    pub nested: &'a [u32],
+    pub nups: &'a [u8],
 }
 
 // A function's head; where its first constant stands, and how many constants it has; where its word lines stand, up to its locals;
@@ -68,41 +78,30 @@ const FLAGS: usize = 2;
 
 const STACK: usize = 3;
 
-// How many functions the table holds.
-fn held(functions: Functions) -> usize
-    ensures { result ≡ held_count functions }
+// The places of the functions that the table holds.
+fn held(functions: &Functions) -> &[Place]
+    ensures { map place_of result.now ≡ held_of functions.now }
 {
-    least(functions.count, MOST_FUNCTIONS)
+    let places: &[Place] = &functions.places;
+    &places[..functions.count.min(MOST_FUNCTIONS)]
 }
 
-// Where function f starts; 0 where there is none.
-fn start_of(functions: Functions, f: usize) -> usize
-    ensures { result ≡ (get_or (held_of functions) f nowhere).start }
+// The place of function f; 0 where there is none.
+fn place_in(functions: &Functions, f: u32) -> Place
+    ensures { place_of result ≡ get_or (held_of functions.now) f nowhere }
 {
-    if held(functions) <= f {
-        return 0;
-    }
-    functions.starts[f] as usize
-}
-
-// Where what follows the nested functions of function f starts; 0 where there is none.
-fn tail_of(functions: Functions, f: usize) -> usize
-    ensures { result ≡ (get_or (held_of functions) f nowhere).tail }
-{
-    if held(functions) <= f {
-        return 0;
-    }
-    functions.tails[f] as usize
+    at_or(held(functions), f as usize, NOWHERE)
 }
 
 // Where the four bytes of the function that starts at `start` stand.
 fn bytes_of(s: &[u8], start: usize) -> usize
     ensures { result ≡ within s.now (bytes_of s.now start) }
 {
-    place_after(s, offset_of(string(s, Cursor::Here(start))), LINES_SIZE)
+    place_after(s, string(s, start).unwrap_or(0), LINES_SIZE)
 }
 
 // Where the count of its words stands.
+#[tactic(auto, using(crate::proofs::Buffers::within_after))]
 fn words_of(s: &[u8], start: usize) -> usize
     ensures { result ≡ within s.now (words_of s.now start) }
 {
@@ -110,6 +109,7 @@ fn words_of(s: &[u8], start: usize) -> usize
 }
 
 // Where the count of its constants stands.
+#[tactic(auto, using(crate::proofs::Buffers::within_after, lua51_value::proofs::Ends::int_within))]
 fn constants_of(s: &[u8], start: usize) -> usize
     ensures { result ≡ within s.now (constants_of s.now start) }
 {
@@ -119,27 +119,36 @@ fn constants_of(s: &[u8], start: usize) -> usize
 }
 
 // How many words function f has.
+#[tactic(auto, using(crate::proofs::Buffers::ints_length, lua51_value::proofs::Ends::int_within), unfolding(lua51_deserializer::specs::Chunk::proto_at))]
 pub fn word_count(s: &[u8], functions: Functions, f: u32) -> usize
     ensures { result ≡ length (proto_at s.now (held_of functions) f).words }
 {
-    int_at(s, words_of(s, start_of(functions, f as usize))) as usize
+    int_at(s, words_of(s, place_in(&functions, f).start as usize)) as usize
+}
+
+// Where the names stand of the function whose lines stand at `tail`; 0 where no locals can be read.
+fn names_from(s: &[u8], tail: usize) -> usize
+    ensures { result ≡ offset (lines s.now tail then locals s.now) }
+{
+    lines(s, tail).and_then(|at| locals(s, at)).unwrap_or(0)
 }
 
 // Function f without its lists.
-fn head_at(s: &[u8], functions: Functions, f: u32) -> Head
-    ensures { result ≡ head_of (proto_at s.now (held_of functions) f) }
+#[tactic(auto, using(crate::proofs::Buffers::ints_length, crate::proofs::Buffers::byte_after, lua51_value::proofs::Ends::byte_within), unfolding(lua51_deserializer::specs::Chunk::proto_at))]
+fn head_at(s: &[u8], functions: &Functions, f: u32) -> Head
+    ensures { result ≡ head_of (proto_at s.now (held_of functions.now) f) }
 {
-    let number = f as usize;
-    let bytes = bytes_of(s, start_of(functions, number));
-    let tail = tail_of(functions, number);
+    let place = place_in(functions, f);
+    let bytes = bytes_of(s, place.start as usize);
+    let tail = place.tail as usize;
     Head {
         number: f,
-        upvalues: byte_at(s, bytes),
+        upvalues: at_or(s, bytes, 0),
         parameters: byte_behind(s, bytes, PARAMETERS),
         flags: byte_behind(s, bytes, FLAGS),
         stack: byte_behind(s, bytes, STACK),
         lines: int_at(s, tail),
-        names: int_at(s, offset_of(locals(s, lines(s, Cursor::Here(tail))))),
+        names: int_at(s, names_from(s, tail)),
     }
 }
 
@@ -149,92 +158,69 @@ fn fill_words(s: &[u8], start: usize, inverse: &[u8], words: &mut [u32]) -> usiz
 {
     let at = words_of(s, start);
     let first = place_after(s, at, INT_SIZE);
-    let n = least(int_at(s, at) as usize, words.len());
-    let mut i: usize = 0;
-    while i < n {
+    let n = (int_at(s, at) as usize).min(words.len());
+    for i in 0..n {
         let word = int_at(s, place_after(s, first, INT_SIZE * i));
         words[i] = word_back(inverse, word);
-        i += 1;
     }
     n
 }
 
 // The kind of the constant at an offset.
+#[tactic(auto, unfolding(lua51_value::specs::Value::kind_of, lua51_value::specs::Value::value_at))]
 fn kind_at(s: &[u8], at: usize) -> u8
     ensures { result ≡ kind_at s.now at }
 {
-    let kind = byte_at(s, at);
-    if kind == KIND_NIL {
-        return KIND_NIL;
+    let kind = at_or(s, at, 0);
+    match kind {
+        KIND_NIL | KIND_BOOLEAN | KIND_NUMBER => kind,
+        _ => KIND_STRING,
     }
-    if kind == KIND_BOOLEAN {
-        return KIND_BOOLEAN;
-    }
-    if kind == KIND_NUMBER {
-        return KIND_NUMBER;
-    }
-    KIND_STRING
 }
 
 // The kinds of the constants from the place `first` on, `count` of them; gives how many there was room for.
 fn fill_kinds(s: &[u8], first: usize, count: usize, kinds: &mut [u8]) -> usize
     ensures { Filled result (length kinds.old) (map (kind_at s.now) (places_from s.now first count)) kinds.old kinds.new }
 {
-    let n = least(count, kinds.len());
+    let n = count.min(kinds.len());
     let mut at = first;
-    let mut i: usize = 0;
-    while i < n {
+    for i in 0..n {
         kinds[i] = kind_at(s, at);
-        at = offset_of(constant(s, Cursor::Here(at)));
-        i += 1;
+        at = constant(s, at).unwrap_or(0);
     }
     n
-}
-
-// The number of the first function from k on that is nested in function `me`, or how many functions there are.
-fn next_nested(functions: Functions, me: u32, k: usize) -> usize
-    ensures { NextNested (held_of functions) me k result }
-{
-    let count = held(functions);
-    let mut r = k;
-    while r < count {
-        if functions.parents[r] as u32 == me {
-            return r;
-        }
-        r += 1;
-    }
-    r
 }
 
 // The numbers of the functions that are nested in function `me`, and their counts of upvalues; gives how many there was room
 // for.
 fn fill_nested(
     s: &[u8],
-    functions: Functions,
+    functions: &Functions,
     me: u32,
     numbers: &mut [u32],
     nups: &mut [u8],
 ) -> usize
-    ensures numbers { Filled result (min (length numbers.old) (length nups.old)) (nested_in number_in me 0 (held_of functions)) numbers.old numbers.new }
-    ensures nups { Filled result (min (length numbers.old) (length nups.old)) (nested_in (upvalues_in s.now) me 0 (held_of functions)) nups.old nups.new }
+    ensures numbers { Filled result (min (length numbers.old) (length nups.old)) (nested_in number_in me 0 (held_of functions.now)) numbers.old numbers.new }
+    ensures nups { Filled result (min (length numbers.old) (length nups.old)) (nested_in (upvalues_in s.now) me 0 (held_of functions.now)) nups.old nups.new }
 {
-    let count = held(functions);
-    let room = least(numbers.len(), nups.len());
-    let mut n: usize = 0;
-    let mut k = next_nested(functions, me, 1);
-    while k < count {
-        if room <= n {
-            return n;
+    let room = numbers.len().min(nups.len());
+    let places = held(functions);
+    let mut n = 0;
+    for (k, place) in places.iter().enumerate() {
+        if 0 < k && u32::from(place.parent) == me {
+            if room <= n {
+                return n;
+            }
+            numbers[n] = k as u32;
+            nups[n] = at_or(s, bytes_of(s, place.start as usize), 0);
+            n += 1;
         }
-        numbers[n] = k as u32;
-        nups[n] = byte_at(s, bytes_of(s, functions.starts[k] as usize));
-        n += 1;
-        k = next_nested(functions, me, k + 1);
     }
     n
 }
 
 // The line of word i, by the bytes of a function's word lines; 0 past the last.
+#[tactic(auto, using(crate::proofs::WordLines::line_none))]
 pub fn line_at(lines: &[u8], i: usize) -> usize
     ensures { result ≡ line_in lines.now i }
 {
@@ -260,13 +246,13 @@ pub fn function_at(
 ) -> Loaded
     ensures { Loads (word_by inverse.now) s.now (held_of functions) f result words.old words.new kinds.old kinds.new nested.old nested.new nups.old nups.new }
 {
-    let number = f as usize;
-    let start = start_of(functions, number);
-    let head = head_at(s, functions, f);
+    let place = place_in(&functions, f);
+    let start = place.start as usize;
+    let head = head_at(s, &functions, f);
     let count_at = constants_of(s, start);
     let first = place_after(s, count_at, INT_SIZE);
     let constants = int_at(s, count_at) as usize;
-    let lines = place_after(s, tail_of(functions, number), INT_SIZE);
+    let lines = place_after(s, place.tail as usize, INT_SIZE);
     let locals = place_after(s, lines, INT_SIZE * (head.lines as usize));
     Loaded {
         head,
@@ -276,6 +262,6 @@ pub fn function_at(
         locals,
         words: fill_words(s, start, inverse, words),
         kinds: fill_kinds(s, first, constants, kinds),
-        nested: fill_nested(s, functions, f, nested, nups),
+        nested: fill_nested(s, &functions, f, nested, nups),
     }
 }

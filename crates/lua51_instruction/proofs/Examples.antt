@@ -6,7 +6,7 @@ use Rattle.lua51_instruction.specs.Word.{JMP, CLOSURE, bias}
 use Rattle.lua51_instruction.specs.Jump.{target_of}
 use Rattle.lua51_instruction.specs.Proto.{Proto, target_at, target, closure_of}
 use Rattle.lua51_instruction.specs.Encode.{abx, jumps}
-use Rattle.lua51_instruction.specs.declared.instruction.Target.TheVariants.{To, Outside}
+use Rattle.std.specs.Prelude.{Some, None}
 
 sample_words : List ℕ
 sample_words =
@@ -34,16 +34,16 @@ sample = record {
   names = 0;
 }
 
-sample_below : target_at sample 0 ≡ Outside
+sample_below : target_at sample 0 ≡ None
 unfolding target_of sample sample_words
 sample_below = refl
 
 -- document 01's P3: 'JMP to n − 1 stands, to n is 10'
-sample_last : target_at sample 1 ≡ To 3
+sample_last : target_at sample 1 ≡ Some 3
 unfolding target_of sample sample_words
 sample_last = refl
 
-sample_behind : target_at sample 2 ≡ Outside
+sample_behind : target_at sample 2 ≡ None
 unfolding target_of sample sample_words
 sample_behind = refl
 

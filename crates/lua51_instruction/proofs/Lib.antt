@@ -4,4 +4,3 @@ pub mod Encode
 pub mod Widths
 pub mod Signed
 pub mod Targets
-pub mod Numbered

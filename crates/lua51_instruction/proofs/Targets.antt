@@ -10,10 +10,9 @@ use lib.Signed.{mag, lt_z, le_z, non_neg}
 use borrow.Author.Tests.{lt-ltb, le-ltb, le-leb, lt-leb, ltb-true, leb-true, leb-false}
 use mir.Syntax.{w64}
 use mir.Val.{Fits}
+use Rattle.std.specs.Prelude.{Option, Some, None}
 use Rattle.lua51_instruction.specs.Word.{field_bx, bias}
 use Rattle.lua51_instruction.specs.Jump.{s_bx, among_words, largest_i32, last_jump, target_of, is_word, word_or}
-use Rattle.lua51_instruction.specs.declared.instruction.Target.{Target}
-use Rattle.lua51_instruction.specs.declared.instruction.Target.TheVariants.{To, Outside}
 use Rattle.lua51_instruction.proofs.Signed.{sub_ge, sub_lt, plus, mag_sub}
 use Rattle.basics.proofs.Tests.{clash, either_way}
 
@@ -34,15 +33,15 @@ module _ (i w : ℕ) where
 -- ------------------------------------------------------------ its tests
 
 module _ (n : ℕ) where
-  pub below_0 : (z : ℤ) → lt_z z (pos 0) ≡ true → Outside ≡ among_words n z
+  pub below_0 : (z : ℤ) → lt_z z (pos 0) ≡ true → None ≡ among_words n z
   below_0 (pos t) h = absurd (omega (arith, ltb-true t 0 h))
   below_0 (negsuc t) h = refl
 
-  pub from_n : (z : ℤ) → mag z < largest_i32 → le_z (pos (min n largest_i32)) z ≡ true → Outside ≡ among_words n z
+  pub from_n : (z : ℤ) → mag z < largest_i32 → le_z (pos (min n largest_i32)) z ≡ true → None ≡ among_words n z
   from_n (pos t) small h = rw (le-ltb t n (omega (arith, leb-true (min n largest_i32) t h)))
   from_n (negsuc t) small h = refl
 
-  pub inside : (z : ℤ) → lt_z z (pos 0) ≡ false → le_z (pos (min n largest_i32)) z ≡ false → To (nat_abs z) ≡ among_words n z
+  pub inside : (z : ℤ) → lt_z z (pos 0) ≡ false → le_z (pos (min n largest_i32)) z ≡ false → Some (nat_abs z) ≡ among_words n z
   inside (pos t) g h = rw (lt-ltb t n (omega (arith, leb-false (min n largest_i32) t h)))
   inside (negsuc t) g h = clash refl g
 
@@ -51,11 +50,11 @@ pub castable : (z : ℤ) → lt_z z (pos 0) ≡ false → mag z < largest_i32 �
 castable (pos t) g small = (tt, record { fits = omega arith })
 castable (negsuc t) g small = clash refl g
 
-pub by_sum : (i n w : ℕ) {t : Target} → i ≤ last_jump → t ≡ among_words n (sum i w) → t ≡ target_of i n w
+pub by_sum : (i n w : ℕ) {t : Option ℕ} → i ≤ last_jump → t ≡ among_words n (sum i w) → t ≡ target_of i n w
 unfolding target_of
 by_sum i n w h e = rw (le-leb i last_jump h) e
 
-pub too_far : (i n w : ℕ) → last_jump < i → Outside ≡ target_of i n w
+pub too_far : (i n w : ℕ) → last_jump < i → None ≡ target_of i n w
 unfolding target_of
 too_far i n w h = rw (lt-leb i last_jump h)
 

@@ -1,6 +1,6 @@
 -- A decoded word, and what the code's table stands for (document 01, under instruction/argument.rs and
 -- instruction/mod.rs).
-use Rattle.std.specs.Prelude.{ℕ, List, [], ◌∷◌, ◌≡◌, get_or}
+use Rattle.std.specs.Prelude.{ℕ, ◌≡◌}
 use Rattle.lua51_instruction.specs.Word.{unused, register, either, upvalue, flag, constant, global, nested}
 use Rattle.lua51_instruction.specs.Word.{offset, pair, quartet, last_from_a, last_from_b, arguments, values}
 use Rattle.lua51_instruction.specs.Word.{varargs, elements, variables, block_number}
@@ -18,7 +18,6 @@ use Rattle.lua51_instruction.specs.declared.instruction.Flow.{Flow}
 use Rattle.lua51_instruction.specs.declared.instruction.Flow.TheVariants.{Straight, Skip, Jump, Test, TestSet}
 use Rattle.lua51_instruction.specs.declared.instruction.Flow.TheVariants.{LoopEntry, NumericLoop, GenericLoop}
 use Rattle.lua51_instruction.specs.declared.instruction.Flow.TheVariants.{Exit}
-use Rattle.lua51_instruction.specs.declared.instruction.RowNumbers.{RowNumbers}
 use Rattle.lua51_instruction.specs.declared.instruction.Row.{Row}
 use Rattle.lua51_instruction.specs.declared.instruction.Fields.{Fields}
 use Rattle.lua51_instruction.specs.declared.instruction.Instruction.{Instruction}
@@ -58,41 +57,6 @@ flow_meant LoopEntry = loop_entry
 flow_meant NumericLoop = numeric_loop
 flow_meant GenericLoop = generic_loop
 flow_meant Exit = exit
-
--- the kinds in the order of their numbers in the code's table
-abbrev pub kinds : List Kind
-kinds =
-    Unused ∷ Register ∷ Either ∷ Upvalue ∷ Flag ∷ Constant ∷ Global ∷ Nested ∷ Offset ∷
-    Pair ∷ Quartet ∷ LastFromA ∷ LastFromB ∷ Arguments ∷ Values ∷ Varargs ∷ Elements ∷ Variables ∷ BlockNumber ∷ []
-
-abbrev pub kind_numbered : ℕ → Kind
-kind_numbered n = get_or kinds n Unused
-
--- the number of each kind
-abbrev pub number_of_kind : word.Kind → ℕ
-number_of_kind unused = 0
-number_of_kind register = 1
-number_of_kind either = 2
-number_of_kind upvalue = 3
-number_of_kind flag = 4
-number_of_kind constant = 5
-number_of_kind global = 6
-number_of_kind nested = 7
-number_of_kind offset = 8
-number_of_kind pair = 9
-number_of_kind quartet = 10
-number_of_kind last_from_a = 11
-number_of_kind last_from_b = 12
-number_of_kind arguments = 13
-number_of_kind values = 14
-number_of_kind varargs = 15
-number_of_kind elements = 16
-number_of_kind variables = 17
-number_of_kind block_number = 18
-
--- the kinds of a row of the table in numbers
-abbrev pub in_numbers : word.Row → RowNumbers
-in_numbers r = (number_of_kind r.a, number_of_kind r.b, number_of_kind r.c)
 
 -- r stands for the kinds of a row
 pub record Means (row : word.Row) (r : Row) : Type 0 where

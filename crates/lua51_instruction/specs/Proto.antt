@@ -1,9 +1,8 @@
 -- One function of a chunk: all that its refusals, its listing and its two followers go by.
-use Rattle.std.specs.Prelude.{ℕ, Bool, List, map, eqb, get_or, length}
+use Rattle.std.specs.Prelude.{ℕ, Bool, List, Option, map, eqb, get_or, length}
 use Rattle.lua51_instruction.specs.Word.{Op, Flow, number_of, op_of, row_of, field_opcode, field_a, field_b, field_c}
 use Rattle.lua51_instruction.specs.Word.{field_bx}
 use Rattle.lua51_instruction.specs.Jump.{target_of, word_or}
-use Rattle.lua51_instruction.specs.declared.instruction.Target.{Target}
 
 -- A function as numbers and lists of numbers.
 pub record Proto : Type 0 where
@@ -80,7 +79,7 @@ abbrev pub flow_at : Proto → ℕ → Flow
 flow_at p i = (row_of (opcode p i)).flow
 
 -- the 'jump target' of word i
-abbrev pub target_at : Proto → ℕ → Target
+abbrev pub target_at : Proto → ℕ → Option ℕ
 target_at p i = target_of i (size p) (word p i)
 
 -- its word; n in place of one outside, which refusal 10 rules out

@@ -6,7 +6,7 @@ ghost use Rattle.lua51_instruction.specs.Argument.{register_or_constant};
 const LAST_REGISTER: u16 = 255;
 
 // An operand of kind Either.
-#[derive(Clone, Copy)]
+#[derive(Clone, Copy, PartialEq, Eq, Debug)]
 pub enum RegisterOrConstant {
     Register(u16),
     Constant(u16),

@@ -2,10 +2,11 @@
 ghost use Rattle.std.specs.Prelude.{◌≡◌, min, pos};
 ghost use Rattle.lua51_instruction.specs.Word.{field_opcode, field_a, field_b, field_c, field_bx, row_of};
 ghost use Rattle.lua51_instruction.specs.Jump.{s_bx, largest_i32, target_of};
-ghost use Rattle.lua51_instruction.specs.Instruction.{kind_numbered, flow_meant, in_numbers, Means, FieldsOf, Decodes};
+ghost use Rattle.lua51_instruction.specs.Instruction.{flow_meant, Means, FieldsOf, Decodes};
 
 use crate::bits::field;
 use crate::op;
+use basics::slices::at_or;
 
 // ------------------------------------------------------------ fields
 
@@ -32,6 +33,8 @@ const BX_WIDTH: u64 = 18;
 
 // What is taken from Bx to give the signed sBx.
 const BIAS: i32 = 131071;
+
+// Each field is read by a function of its own: a field has its own width, and one function for all would not say which.
 
 // The opcode of a word, from 0 to 63.
 pub fn opcode_of(word: u32) -> u8
@@ -77,15 +80,8 @@ pub fn sbx_of(word: u32) -> i32
 
 // ------------------------------------------------------------ jumps
 
-// Where a jump leads: to a word of its function, or outside.
-#[derive(Clone, Copy)]
-pub enum Target {
-    To(usize),
-    Outside,
-}
-
 // The largest i32.
-const LARGEST: usize = 2147483647;
+const LARGEST: usize = i32::MAX as usize;
 
 // The last word number from which word + 1 + sBx is below that, whatever sBx is.
 const LAST_JUMP: usize = LARGEST - 131074;
@@ -100,27 +96,28 @@ fn signed(n: usize) -> i32
     LARGEST as i32
 }
 
-// The target of the jump that is word i of n words: word + 1 + sBx as an i32, tested against 0 and n before it is cast.
-pub fn jump_target(i: usize, n: usize, word: u32) -> Target
+// The target of the jump that is word i of n words: word + 1 + sBx as an i32, tested against 0 and n before it is cast; none where it
+// leads outside. (`usize::try_from` was tried in place of the test against 0: it takes three instructions more at each jump.)
+pub fn jump_target(i: usize, n: usize, word: u32) -> Option<usize>
     ensures { result ≡ target_of i n word }
 {
     if LAST_JUMP < i {
-        return Target::Outside;
+        return None;
     }
     let target = i as i32 + 1 + sbx_of(word);
     if target < 0 {
-        return Target::Outside;
+        return None;
     }
     if signed(n) <= target {
-        return Target::Outside;
+        return None;
     }
-    Target::To(target as usize)
+    Some(target as usize)
 }
 
 // ------------------------------------------------------------ the table of opcodes
 
 // An operand's kind: what it stands for.
-#[derive(Clone, Copy)]
+#[derive(Clone, Copy, PartialEq, Eq, Debug)]
 pub enum Kind {
     // Nothing reads it.
     Unused,
@@ -163,7 +160,7 @@ pub enum Kind {
 }
 
 // Where control goes behind a word.
-#[derive(Clone, Copy)]
+#[derive(Clone, Copy, PartialEq, Eq, Debug)]
 pub enum Flow {
     // To the next word.
     Straight,
@@ -185,162 +182,72 @@ pub enum Flow {
     Exit,
 }
 
-// The number of each kind in the table.
-const UNUSED: u8 = 0;
-
-const REGISTER: u8 = 1;
-
-const EITHER: u8 = 2;
-
-const UPVALUE: u8 = 3;
-
-const FLAG: u8 = 4;
-
-const CONSTANT: u8 = 5;
-
-const GLOBAL: u8 = 6;
-
-const NESTED: u8 = 7;
-
-const OFFSET: u8 = 8;
-
-const PAIR: u8 = 9;
-
-const QUARTET: u8 = 10;
-
-const LAST_FROM_A: u8 = 11;
-
-const LAST_FROM_B: u8 = 12;
-
-const ARGUMENTS: u8 = 13;
-
-const VALUES: u8 = 14;
-
-const VARARGS: u8 = 15;
-
-const ELEMENTS: u8 = 16;
-
-const VARIABLES: u8 = 17;
-
-const BLOCK_NUMBER: u8 = 18;
-
-// The kinds by number.
-const KIND_COUNT: usize = 19;
-
-const KINDS: [Kind; KIND_COUNT] = [
-    Kind::Unused,
-    Kind::Register,
-    Kind::Either,
-    Kind::Upvalue,
-    Kind::Flag,
-    Kind::Constant,
-    Kind::Global,
-    Kind::Nested,
-    Kind::Offset,
-    Kind::Pair,
-    Kind::Quartet,
-    Kind::LastFromA,
-    Kind::LastFromB,
-    Kind::Arguments,
-    Kind::Values,
-    Kind::Varargs,
-    Kind::Elements,
-    Kind::Variables,
-    Kind::BlockNumber,
-];
-
-// The kind of a number; a number above the last is no kind's and stands for nothing.
-fn kind_of(number: u8) -> Kind
-    ensures { result ≡ kind_numbered number }
-{
-    let i = number as usize;
-    if i < KIND_COUNT {
-        return KINDS[i];
-    }
-    Kind::Unused
-}
-
-// A row of the table in numbers: the kinds of A, B and C.
-#[derive(Clone, Copy)]
-struct RowNumbers(u8, u8, u8);
-
-// How many opcodes there are.
-pub const OPCODES: usize = 38;
-
-// The table of the opcodes 0 to 37, in the order of lopcodes.h.
-const ROWS: [RowNumbers; OPCODES] = [
-    RowNumbers(REGISTER, REGISTER, UNUSED), // MOVE
-    RowNumbers(REGISTER, CONSTANT, UNUSED), // LOADK
-    RowNumbers(REGISTER, FLAG, FLAG), // LOADBOOL
-    RowNumbers(REGISTER, LAST_FROM_A, UNUSED), // LOADNIL
-    RowNumbers(REGISTER, UPVALUE, UNUSED), // GETUPVAL
-    RowNumbers(REGISTER, GLOBAL, UNUSED), // GETGLOBAL
-    RowNumbers(REGISTER, REGISTER, EITHER), // GETTABLE
-    RowNumbers(REGISTER, GLOBAL, UNUSED), // SETGLOBAL
-    RowNumbers(REGISTER, UPVALUE, UNUSED), // SETUPVAL
-    RowNumbers(REGISTER, EITHER, EITHER), // SETTABLE
-    RowNumbers(REGISTER, UNUSED, UNUSED), // NEWTABLE
-    RowNumbers(PAIR, REGISTER, EITHER), // SELF
-    RowNumbers(REGISTER, EITHER, EITHER), // ADD
-    RowNumbers(REGISTER, EITHER, EITHER), // SUB
-    RowNumbers(REGISTER, EITHER, EITHER), // MUL
-    RowNumbers(REGISTER, EITHER, EITHER), // DIV
-    RowNumbers(REGISTER, EITHER, EITHER), // MOD
-    RowNumbers(REGISTER, EITHER, EITHER), // POW
-    RowNumbers(REGISTER, REGISTER, UNUSED), // UNM
-    RowNumbers(REGISTER, REGISTER, UNUSED), // NOT
-    RowNumbers(REGISTER, REGISTER, UNUSED), // LEN
-    RowNumbers(REGISTER, REGISTER, LAST_FROM_B), // CONCAT
-    RowNumbers(UNUSED, OFFSET, UNUSED), // JMP
-    RowNumbers(FLAG, EITHER, EITHER), // EQ
-    RowNumbers(FLAG, EITHER, EITHER), // LT
-    RowNumbers(FLAG, EITHER, EITHER), // LE
-    RowNumbers(REGISTER, UNUSED, FLAG), // TEST
-    RowNumbers(REGISTER, REGISTER, FLAG), // TESTSET
-    RowNumbers(REGISTER, ARGUMENTS, VALUES), // CALL
-    RowNumbers(REGISTER, ARGUMENTS, UNUSED), // TAILCALL
-    RowNumbers(REGISTER, VALUES, UNUSED), // RETURN
-    RowNumbers(QUARTET, OFFSET, UNUSED), // FORLOOP
-    RowNumbers(QUARTET, OFFSET, UNUSED), // FORPREP
-    RowNumbers(REGISTER, UNUSED, VARIABLES), // TFORLOOP
-    RowNumbers(REGISTER, ELEMENTS, BLOCK_NUMBER), // SETLIST
-    RowNumbers(REGISTER, UNUSED, UNUSED), // CLOSE
-    RowNumbers(REGISTER, NESTED, UNUSED), // CLOSURE
-    RowNumbers(REGISTER, VARARGS, UNUSED), // VARARG
-];
-
-// The row of an opcode in numbers. An opcode above 37 uses no operand.
-fn row_numbers_of(opcode: u8) -> RowNumbers
-    ensures { result ≡ in_numbers (row_of opcode) }
-{
-    let i = opcode as usize;
-    if i < OPCODES {
-        return ROWS[i];
-    }
-    RowNumbers(UNUSED, UNUSED, UNUSED)
-}
-
 // What the table says of an opcode: the kinds of its operands. The kind of Bx or sBx stands under b.
-#[derive(Clone, Copy)]
+#[derive(Clone, Copy, PartialEq, Eq, Debug)]
 pub struct Row {
     pub a: Kind,
     pub b: Kind,
     pub c: Kind,
 }
 
-// The row of an opcode.
+// How many opcodes there are.
+pub const OPCODES: usize = 38;
+
+// The table of the opcodes 0 to 37, in the order of lopcodes.h: the kinds of A, B and C.
+const ROWS: [(Kind, Kind, Kind); OPCODES] = [
+    (Kind::Register, Kind::Register, Kind::Unused), // MOVE
+    (Kind::Register, Kind::Constant, Kind::Unused), // LOADK
+    (Kind::Register, Kind::Flag, Kind::Flag), // LOADBOOL
+    (Kind::Register, Kind::LastFromA, Kind::Unused), // LOADNIL
+    (Kind::Register, Kind::Upvalue, Kind::Unused), // GETUPVAL
+    (Kind::Register, Kind::Global, Kind::Unused), // GETGLOBAL
+    (Kind::Register, Kind::Register, Kind::Either), // GETTABLE
+    (Kind::Register, Kind::Global, Kind::Unused), // SETGLOBAL
+    (Kind::Register, Kind::Upvalue, Kind::Unused), // SETUPVAL
+    (Kind::Register, Kind::Either, Kind::Either), // SETTABLE
+    (Kind::Register, Kind::Unused, Kind::Unused), // NEWTABLE
+    (Kind::Pair, Kind::Register, Kind::Either), // SELF
+    (Kind::Register, Kind::Either, Kind::Either), // ADD
+    (Kind::Register, Kind::Either, Kind::Either), // SUB
+    (Kind::Register, Kind::Either, Kind::Either), // MUL
+    (Kind::Register, Kind::Either, Kind::Either), // DIV
+    (Kind::Register, Kind::Either, Kind::Either), // MOD
+    (Kind::Register, Kind::Either, Kind::Either), // POW
+    (Kind::Register, Kind::Register, Kind::Unused), // UNM
+    (Kind::Register, Kind::Register, Kind::Unused), // NOT
+    (Kind::Register, Kind::Register, Kind::Unused), // LEN
+    (Kind::Register, Kind::Register, Kind::LastFromB), // CONCAT
+    (Kind::Unused, Kind::Offset, Kind::Unused), // JMP
+    (Kind::Flag, Kind::Either, Kind::Either), // EQ
+    (Kind::Flag, Kind::Either, Kind::Either), // LT
+    (Kind::Flag, Kind::Either, Kind::Either), // LE
+    (Kind::Register, Kind::Unused, Kind::Flag), // TEST
+    (Kind::Register, Kind::Register, Kind::Flag), // TESTSET
+    (Kind::Register, Kind::Arguments, Kind::Values), // CALL
+    (Kind::Register, Kind::Arguments, Kind::Unused), // TAILCALL
+    (Kind::Register, Kind::Values, Kind::Unused), // RETURN
+    (Kind::Quartet, Kind::Offset, Kind::Unused), // FORLOOP
+    (Kind::Quartet, Kind::Offset, Kind::Unused), // FORPREP
+    (Kind::Register, Kind::Unused, Kind::Variables), // TFORLOOP
+    (Kind::Register, Kind::Elements, Kind::BlockNumber), // SETLIST
+    (Kind::Register, Kind::Unused, Kind::Unused), // CLOSE
+    (Kind::Register, Kind::Nested, Kind::Unused), // CLOSURE
+    (Kind::Register, Kind::Varargs, Kind::Unused), // VARARG
+];
+
+// The kinds of what has no operands.
+const NO_OPERANDS: (Kind, Kind, Kind) = (Kind::Unused, Kind::Unused, Kind::Unused);
+
+// The row of an opcode. An opcode above 37 uses no operand.
 fn row_of(opcode: u8) -> Row
     ensures { Means (row_of opcode) result }
 {
-    let e = row_numbers_of(opcode);
-    Row {
-        a: kind_of(e.0),
-        b: kind_of(e.1),
-        c: kind_of(e.2),
-    }
+    let (a, b, c) = at_or(&ROWS, usize::from(opcode), NO_OPERANDS);
+    Row { a, b, c }
 }
 
 // The flow of an opcode. An opcode above 37 goes straight on.
+#[tactic(auto, unfolding(crate::specs::Word::op_of, crate::specs::Word::row, crate::specs::Word::row_of))]
 pub fn flow_of(opcode: u8) -> Flow
     ensures { flow_meant result ≡ (row_of opcode).flow }
 {
@@ -363,7 +270,7 @@ pub fn flow_of(opcode: u8) -> Flow
 // ------------------------------------------------------------ instructions
 
 // The fields of a word: its opcode and its operands.
-#[derive(Clone, Copy)]
+#[derive(Clone, Copy, PartialEq, Eq, Debug)]
 pub struct Fields {
     pub opcode: u8,
     pub a: u8,
@@ -386,7 +293,7 @@ pub fn fields_of(word: u32) -> Fields
 }
 
 // A decoded word: its fields, and what the table says of them.
-#[derive(Clone, Copy)]
+#[derive(Clone, Copy, PartialEq, Eq, Debug)]
 pub struct Instruction {
     pub fields: Fields,
     pub row: Row,

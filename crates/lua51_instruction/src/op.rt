@@ -1,4 +1,6 @@
-// The opcodes by name, with their numbers (lopcodes.h).
+// The opcodes by name, with their numbers (lopcodes.h). They are no enum, since that would be no plainer: a word has any of 64
+// numbers, of which refusal 9 judges those that are no opcode's, and an S line prints the number; an enum would be made of the
+// number at each word and turned back at each line.
 pub const MOVE: u8 = 0;
 
 pub const LOADK: u8 = 1;

@@ -1,11 +1,9 @@
 -- The numbers and places of the documents for what a check finds (document 01, 'Refusals from the input', 7 to 14; document
 -- 02, 15).
 use Prim.{Unit}
-use Rattle.std.specs.Prelude.{ℕ, ◌-◌, ◌≤◌}
+use Rattle.std.specs.Prelude.{ℕ, ◌-◌, ◌≤◌, Result, Ok, Err}
 use Rattle.lua51_lifter.specs.Check as check
 use Rattle.lua51_lifter.specs.Check.{fine, wrong}
-use Rattle.lua51_lifter.specs.declared.verdict.Verdict.{Verdict}
-use Rattle.lua51_lifter.specs.declared.verdict.Verdict.TheVariants.{Fine, Refused}
 use Rattle.lua51_lifter.specs.declared.verdict.FunctionFault.{FunctionFault}
 use Rattle.lua51_lifter.specs.declared.verdict.FunctionFault.TheVariants.{Head, Last, Operand, Target}
 use Rattle.lua51_lifter.specs.declared.verdict.FunctionFault.TheVariants.{Jump, Results, Captures, Shared, Line}
@@ -34,9 +32,9 @@ function_fault_place (Captures i) = i
 function_fault_place (Shared i) = i
 function_fault_place (Line i) = i
 
-abbrev pub verdict_of : Verdict → check.Verdict
-verdict_of Fine = fine
-verdict_of (Refused f) = wrong (function_fault_number f) (function_fault_place f)
+abbrev pub verdict_of : Result (Unit {0}) FunctionFault → check.Verdict
+verdict_of (Ok t) = fine
+verdict_of (Err f) = wrong (function_fault_number f) (function_fault_place f)
 
 -- what is found in n words: nothing, or a refusal from `least` to `most` whose place is one of them, or 0
 abbrev pub Found : ℕ → ℕ → ℕ → check.Verdict → Type 0

@@ -2,3 +2,4 @@
 #![tactic(auto)]
 
 pub mod operands; // refusal 9
+pub mod subject; // the function that is judged

@@ -4,49 +4,48 @@ ghost use Rattle.lua51_instruction.specs.Word.{op_of, number_of, ADD, POW, CONCA
 ghost use Rattle.lua51_instruction.specs.Proto.{Proto, word};
 ghost use Rattle.lua51_instruction.specs.Instruction.{FieldsOf};
 ghost use Rattle.ast.specs.Statement.{op_add};
-ghost use Rattle.ast.specs.Buffer.{buffer, adds, Writes};
+ghost use Rattle.ast.specs.Written.{Adds, Wrote};
 ghost use Rattle.lua51_lifter.specs.Lift.{statements_by};
 ghost use Rattle.lua51_runs.specs.Runs.{run_at};
 
-use ast::{LENGTH, MINUS, NOT, REGISTER, UNARY};
-use basics::numbers::minus;
+use ast::{LENGTH, MINUS, NOT, REGISTER, Run, UNARY};
 use lua51_instruction::instruction::Fields;
 use lua51_instruction::op;
-use lua51_runs::operands::binary_of;
+use lua51_runs::operands::push_binary;
 use lua51_runs::registers::{push_concatenated, set_register};
 
 // Writes the statement of CONCAT.
-fn concat(run: &mut [u32], w: Fields) -> usize
+fn concat(run: &mut Run, w: Fields)
     ensures result_after { (p : Proto) (i : ℕ) → FieldsOf (word p i) w
-        → buffer run.new result ≡ adds (buffer run.old 0) (run_at (statements_by p i CONCAT) 0) }
-    ensures anyway { Writes (buffer run.old 0) (buffer run.new result) }
+        → Adds run.old run.new (run_at (statements_by p i CONCAT) 0) }
+    ensures anyway { Wrote run.old run.new }
 {
-    let used = set_register(run, w.a as u32, &[]);
-    push_concatenated(run, used, w.b, minus(w.c, w.b))
+    set_register(run, w.a as u32, &[]);
+    push_concatenated(run, w.b, w.c.saturating_sub(w.b));
 }
 
 // The operator of an opcode from ADD to POW.
 fn operator_of(opcode: u8) -> u32
     ensures { result ≡ opcode - number_of ADD + op_add }
 {
-    minus(opcode as u16, op::ADD as u16) as u32 + ast::ADD
+    opcode.saturating_sub(op::ADD) as u32 + ast::ADD
 }
 
 // Writes the statement of an opcode from ADD to POW.
-fn arithmetic(run: &mut [u32], w: Fields) -> usize
+fn arithmetic(run: &mut Run, w: Fields)
     ensures result_after { (p : Proto) (i : ℕ) → FieldsOf (word p i) w → number_of ADD ≤ w.opcode → w.opcode ≤ number_of POW
-        → buffer run.new result ≡ adds (buffer run.old 0) (run_at (statements_by p i (op_of w.opcode)) 0) }
-    ensures anyway { Writes (buffer run.old 0) (buffer run.new result) }
+        → Adds run.old run.new (run_at (statements_by p i (op_of w.opcode)) 0) }
+    ensures anyway { Wrote run.old run.new }
 {
-    let value = binary_of(w, operator_of(w.opcode));
-    set_register(run, w.a as u32, &value)
+    set_register(run, w.a as u32, &[]);
+    push_binary(run, w, operator_of(w.opcode));
 }
 
 // Writes the statement of an opcode from ADD to CONCAT. For any other word it writes some numbers.
-pub fn operation(run: &mut [u32], w: Fields) -> usize
+pub fn operation(run: &mut Run, w: Fields)
     ensures result_after { (p : Proto) (i : ℕ) → FieldsOf (word p i) w → number_of ADD ≤ w.opcode → w.opcode ≤ number_of CONCAT
-        → buffer run.new result ≡ adds (buffer run.old 0) (run_at (statements_by p i (op_of w.opcode)) 0) }
-    ensures anyway { Writes (buffer run.old 0) (buffer run.new result) }
+        → Adds run.old run.new (run_at (statements_by p i (op_of w.opcode)) 0) }
+    ensures anyway { Wrote run.old run.new }
 {
     let a = w.a as u32;
     let b = w.b as u32;

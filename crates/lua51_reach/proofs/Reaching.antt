@@ -11,8 +11,7 @@ use Rattle.basics.proofs.Tests.{clash, either_way}
 use Rattle.lua51_instruction.specs.Word.{Flow, straight, skip, jump, test, test_set, loop_entry, numeric_loop, generic_loop, exit}
 use Rattle.lua51_instruction.specs.Jump.{is_word, word_or}
 use Rattle.lua51_instruction.specs.Proto.{Proto, size, word, arg_c, target_at}
-use Rattle.lua51_instruction.specs.declared.instruction.Target.{Target}
-use Rattle.lua51_instruction.specs.declared.instruction.Target.TheVariants as target
+use Rattle.std.specs.Prelude.{Option, Some, None}
 use Rattle.lua51_instruction.proofs.Targets.{target_below}
 use Rattle.lua51_lifter.specs.Check.{lands_inside, reaches}
 use Rattle.lua51_reach.specs.Targets.{skip_of, reach_by, reach_of}
@@ -25,6 +24,11 @@ inside Nowhere = true
 inside (To t) = true
 inside Outside = false
 
+pub not_outside : (r : Reach) → (r ≡ Outside → ⊥) → true ≡ inside r
+not_outside Nowhere n = refl
+not_outside (To t) n = refl
+not_outside Outside n = absurd (n refl)
+
 -- the word that is a target or skip
 abbrev pub word_of : Reach → List ℕ
 word_of Nowhere = []
@@ -36,9 +40,9 @@ word_of Outside = []
 skip_inside : (i n : ℕ) → ltb (i + 2) n ≡ inside (skip_of i n)
 skip_inside i n = either_way (ltb (i + 2) n) (λ h. rw h) (λ h. rw h)
 
-jump_inside : (t : Target) → is_word t ≡ inside (reach_by t)
-jump_inside (target.To t) = refl
-jump_inside target.Outside = refl
+jump_inside : (t : Option ℕ) → is_word t ≡ inside (reach_by t)
+jump_inside (Some t) = refl
+jump_inside None = refl
 
 module _ (p : Proto) (i : ℕ) where
   pub lands_by : (f : Flow) → lands_inside p i f ≡ inside (reach_of p i f)
@@ -68,9 +72,9 @@ pub data Led (n : ℕ) : Reach → List ℕ → Type 0 where
 skip_led : (i n : ℕ) → Led n (skip_of i n) (only (i + 2))
 skip_led i n = either_way (ltb (i + 2) n) (λ h. rw h (to (ltb-true (i + 2) n h))) (λ h. rw h (outside (ltb-false (i + 2) n h)))
 
-jump_led : (n : ℕ) (t : Target) → (is_word t ≡ true → word_or n t < n) → Led n (reach_by t) (only (word_or n t))
-jump_led n (target.To t) h = to (h refl)
-jump_led n target.Outside h = outside {t = n} (omega arith)
+jump_led : (n : ℕ) (t : Option ℕ) → (is_word t ≡ true → word_or n t < n) → Led n (reach_by t) (only (word_or n t))
+jump_led n (Some t) h = to (h refl)
+jump_led n None h = outside {t = n} (omega arith)
 
 module _ (p : Proto) (i : ℕ) where
   by_jump : Led (size p) (reach_by (target_at p i)) (only (word_or (size p) (target_at p i)))

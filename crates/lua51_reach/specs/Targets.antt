@@ -1,9 +1,7 @@
 -- Where a word leads beside the next one, as the code has it, and marks of words (document 01, 'Refusals from the input').
-use Rattle.std.specs.Prelude.{ℕ, ◌+◌, ◌≤◌, Bool, cond, ◌&&◌, List, ◌≡◌, ltb, eqb, get_or, set}
+use Rattle.std.specs.Prelude.{ℕ, ◌+◌, ◌≤◌, Option, Some, None, Bool, cond, ◌&&◌, List, ◌≡◌, ltb, eqb, get_or, set}
 use Rattle.lua51_instruction.specs.Word.{Flow, straight, skip, jump, test, test_set, loop_entry, numeric_loop, generic_loop, exit}
 use Rattle.lua51_instruction.specs.Proto.{Proto, size, arg_c, target_at}
-use Rattle.lua51_instruction.specs.declared.instruction.Target as target
-use Rattle.lua51_instruction.specs.declared.instruction.Target.TheVariants.{To as to, Outside as outside}
 use Rattle.cfg.specs.Arrays.{bit}
 use Rattle.lua51_lifter.specs.Check.{reached}
 use Rattle.lua51_reach.specs.declared.reach.Reach.{Reach}
@@ -16,9 +14,9 @@ abbrev pub skip_of : ℕ → ℕ → Reach
 skip_of i n = cond (ltb (i + 2) n) (To (i + 2)) Outside
 
 -- a jump leads to its target
-abbrev pub reach_by : target.Target → Reach
-reach_by (to t) = To t
-reach_by outside = Outside
+abbrev pub reach_by : Option ℕ → Reach
+reach_by (Some t) = To t
+reach_by None = Outside
 
 -- the 'Target or skip' of word i
 unfoldable pub reach_of : Proto → ℕ → Flow → Reach

@@ -5,7 +5,6 @@ ghost use Rattle.lua51_instruction.specs.Proto.{Proto};
 ghost use Rattle.lua51_reach.specs.Targets.{marked_by, reached_mark};
 
 use crate::reach::{Reach, reach_of};
-use basics::slices::clear_bytes;
 use cfg::marks::put_mark;
 use lua51_instruction::instruction::{flow_of, opcode_of};
 
@@ -13,21 +12,18 @@ use lua51_instruction::instruction::{flow_of, opcode_of};
 fn mark(marks: &mut [u8], reach: Reach)
     ensures { marks.new ≡ marked_by reach marks.old }
 {
-    let Reach::To(j) = reach else {
-        return;
-    };
-    put_mark(marks, j);
+    if let Reach::To(j) = reach {
+        put_mark(marks, j);
+    }
 }
 
 // Marks the words of a function that are a jump target or a skip of any word.
 pub fn mark_reached(words: &[u32], marks: &mut [u8])
     ensures { (p : Proto) → p.words ≡ words.now → marks.new ≡ table (reached_mark p) (length marks.old) }
 {
-    clear_bytes(marks);
-    let mut i = 0;
-    while i < words.len() {
-        let flow = flow_of(opcode_of(words[i]));
+    marks.fill(0);
+    for (i, word) in words.iter().enumerate() {
+        let flow = flow_of(opcode_of(*word));
         mark(marks, reach_of(flow, words, i));
-        i += 1;
     }
 }

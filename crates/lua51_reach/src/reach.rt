@@ -6,11 +6,11 @@ ghost use Rattle.lua51_instruction.specs.Jump.{target_of};
 ghost use Rattle.lua51_lifter.specs.Check.{lands_inside, tests};
 ghost use Rattle.lua51_reach.specs.Targets.{skip_of, reach_by, reach_of};
 
-use basics::slices::word_at;
-use lua51_instruction::instruction::{Flow, Target, c_of, jump_target};
+use basics::slices::at_or;
+use lua51_instruction::instruction::{Flow, c_of, jump_target};
 
-// Where a word leads beside the next one, by its target or its skip.
-#[derive(Clone, Copy)]
+// Where a word leads beside the next one, by its target or its skip: three answers, so no Option.
+#[derive(Clone, Copy, PartialEq, Eq, Debug)]
 pub enum Reach {
     Nowhere,
     To(usize),
@@ -24,13 +24,10 @@ const SKIP: usize = 2;
 fn skip_of(i: usize, n: usize) -> Reach
     ensures { result ≡ skip_of i n }
 {
-    if n < SKIP {
-        return Reach::Outside;
+    if i < n.saturating_sub(SKIP) {
+        return Reach::To(i + SKIP);
     }
-    if n - SKIP <= i {
-        return Reach::Outside;
-    }
-    Reach::To(i + SKIP)
+    Reach::Outside
 }
 
 // The target of the jump that is word i of n words.
@@ -38,32 +35,28 @@ fn jump_of(i: usize, n: usize, word: u32) -> Reach
     ensures { result ≡ reach_by (target_of i n word) }
 {
     match jump_target(i, n, word) {
-        Target::To(t) => Reach::To(t),
-        Target::Outside => Reach::Outside,
+        Some(t) => Reach::To(t),
+        None => Reach::Outside,
     }
 }
 
 // Where word i leads beside the next one, by its flow.
+#[tactic(auto, unfolding(crate::specs::Targets::reach_of))]
 pub fn reach_of(flow: Flow, words: &[u32], i: usize) -> Reach
     ensures { (p : Proto) → p.words ≡ words.now → result ≡ reach_of p i (flow_meant flow) }
 {
     let n = words.len();
-    let word = word_at(words, i);
+    let word = at_or(words, i, 0);
     match flow {
-        Flow::Straight => Reach::Nowhere,
+        Flow::Straight | Flow::Exit => Reach::Nowhere,
         Flow::Skip => {
             if c_of(word) == 0 {
                 return Reach::Nowhere;
             }
             skip_of(i, n)
         }
-        Flow::Jump => jump_of(i, n, word),
-        Flow::Test => skip_of(i, n),
-        Flow::TestSet => skip_of(i, n),
-        Flow::LoopEntry => jump_of(i, n, word),
-        Flow::NumericLoop => jump_of(i, n, word),
-        Flow::GenericLoop => skip_of(i, n),
-        Flow::Exit => Reach::Nowhere,
+        Flow::Jump | Flow::LoopEntry | Flow::NumericLoop => jump_of(i, n, word),
+        Flow::Test | Flow::TestSet | Flow::GenericLoop => skip_of(i, n),
     }
 }
 
@@ -71,21 +64,13 @@ pub fn reach_of(flow: Flow, words: &[u32], i: usize) -> Reach
 pub fn lands_inside(flow: Flow, words: &[u32], i: usize) -> bool
     ensures { (p : Proto) → p.words ≡ words.now → result ≡ lands_inside p i (flow_meant flow) }
 {
-    match reach_of(flow, words, i) {
-        Reach::Nowhere => true,
-        Reach::To(_) => true,
-        Reach::Outside => false,
-    }
+    !matches!(reach_of(flow, words, i), Reach::Outside)
 }
 
 // Whether a flow is a test's or a generic loop's.
+#[tactic(auto, unfolding(lua51_lifter::specs::Check::tests))]
 pub fn asks(flow: Flow) -> bool
     ensures { result ≡ tests (flow_meant flow) }
 {
-    match flow {
-        Flow::Test => true,
-        Flow::TestSet => true,
-        Flow::GenericLoop => true,
-        _ => false,
-    }
+    matches!(flow, Flow::Test | Flow::TestSet | Flow::GenericLoop)
 }

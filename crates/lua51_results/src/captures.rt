@@ -18,17 +18,6 @@ fn is_capture(word: u32) -> bool
 pub fn captures_follow(words: &[u32], leaders: &[u8], first: usize, count: usize) -> bool
     ensures { result ≡ captures_from words.now leaders.now first count }
 {
-    let mut at = first;
-    let mut left = count;
-    while 0 < left {
-        if words.len() <= at {
-            return false;
-        }
-        if !(is_capture(words[at]) & !marked(leaders, at)) {
-            return false;
-        }
-        at += 1;
-        left -= 1;
-    }
-    true
+    count <= words.len().saturating_sub(first)
+        && (first..first + count).all(|at| is_capture(words[at]) & !marked(leaders, at))
 }

@@ -7,6 +7,7 @@ use lua51_instruction::instruction::{a_of, b_of, c_of, opcode_of};
 use lua51_instruction::op::{CALL, RETURN, SETLIST, TAILCALL, VARARG};
 
 // Whether a word leaves its results open.
+#[tactic(auto, unfolding(lua51_lifter::specs::Check::opener))]
 pub fn opens(word: u32) -> bool
     ensures { (p : Proto) (i : ℕ) → get_or p.words i 0 ≡ word → result ≡ opener p i }
 {
@@ -17,6 +18,7 @@ pub fn opens(word: u32) -> bool
 }
 
 // Whether a word takes open results.
+#[tactic(auto, unfolding(lua51_lifter::specs::Check::user))]
 pub fn takes(word: u32) -> bool
     ensures { (p : Proto) (i : ℕ) → get_or p.words i 0 ≡ word → result ≡ user p i }
 {
@@ -26,10 +28,11 @@ pub fn takes(word: u32) -> bool
 }
 
 // The first register that a word takes with open results behind it.
+#[tactic(auto, unfolding(lua51_lifter::specs::Check::slot))]
 pub fn first_slot(word: u32) -> u32
     ensures { (p : Proto) (i : ℕ) → get_or p.words i 0 ≡ word → result ≡ slot p i }
 {
-    let a = a_of(word) as u32;
+    let a = u32::from(a_of(word));
     if opcode_of(word) == RETURN {
         return a;
     }
@@ -37,6 +40,7 @@ pub fn first_slot(word: u32) -> u32
 }
 
 // Whether the next word may use the open results of a word: those of TAILCALL are for RETURN with the same A alone.
+#[tactic(auto, unfolding(lua51_lifter::specs::Check::matches))]
 pub fn suits(word: u32, next: u32) -> bool
     ensures { (p : Proto) (i : ℕ) → get_or p.words i 0 ≡ word → get_or p.words (i + 1) 0 ≡ next → result ≡ matches p i }
 {

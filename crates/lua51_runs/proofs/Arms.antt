@@ -1,5 +1,5 @@
--- What the last arm of a match on opcodes knows. Assumes nothing.
-use Prim.Native.Nat.{ℕ, zero, suc, ◌+◌, ◌≤◌}
+-- What the arms of a match on opcodes know. Assumes nothing.
+use Prim.Native.Nat.{ℕ, zero, suc, ◌+◌, ◌≤◌, ◌<◌}
 use mathlib.Core.Path.{◌≡◌}
 use native.Mathlib.Omega.{arith}
 
@@ -14,3 +14,9 @@ missed o from (suc n) le h = beyond (missed o from n le h.0) h.1
   where
     beyond : from + n ≤ o → (o ≡ from + n → ⊥) → from + suc n ≤ o
     beyond le ne = omega arith
+
+-- the one element of a list of one
+pub sole : {k n : ℕ} → k < n → n ≡ 1 → k ≡ 0
+sole {k} {n} h e =
+    let below : k < 1 = rw e at h in
+    omega arith

@@ -1,28 +1,24 @@
 -- Laws of registers one after the other: assignments to them, set lists, their numbers, joined. Assumes nothing.
-use Prim.Native.Nat.{ℕ, zero, suc, ◌+◌, ◌-◌, ◌*◌, ◌≤◌, ◌<◌}
+use Prim.Native.Nat.{ℕ, suc, ◌+◌, ◌-◌, ◌*◌}
 use mathlib.Core.List.{[], ◌∷◌, ◌++◌, append-nil}
-use mathlib.Core.Path.{◌≡◌, refl}
+use mathlib.Core.Path.{◌≡◌}
 use native.Mathlib.Omega.{arith}
 use Rattle.basics.specs.Range.{over, only}
 use Rattle.ast.specs.Statement.{Expr, registers, []ᵉ, one, assign, set_register, set_list, Tail, run, count, expr, exprs, tail_numbers}
-use Rattle.ast.specs.Buffer.{Buffer, adds}
-use Rattle.ast.proofs.Adds.{adds_none}
 use Rattle.ast.proofs.Registers.{count_registers_alone}
 use Rattle.lua51_lifter.specs.Lift.{concatenated}
 use Rattle.lua51_runs.specs.Runs.{assigned, lefts, listed}
 
--- one turn of a loop that writes the n numbers from r on, and its end
-pub range_turn : (b : Buffer) (r n : ℕ) → 0 < n → adds b (over only r n) ≡ adds (adds b (r ∷ [])) (over only (r + 1) (n - 1))
-unfolding over adds
-range_turn b r zero h = absurd (omega arith)
-range_turn b r (suc n) h =
-    let left : suc n - 1 ≡ n = omega arith in
-    rw left
-
-pub range_done : (b : Buffer) (r n : ℕ) → n ≤ 0 → adds b (over only r n) ≡ b
+-- the first of n numbers from r on, and the m behind it; and none
+pub range_turn : (r n m : ℕ) → n ≡ m + 1 → over only r n ≡ r ∷ over only (r + 1) m
 unfolding over
-range_done b r zero h = adds_none b
-range_done b r (suc n) h = absurd (omega arith)
+range_turn r n m e =
+    let more : n ≡ suc m = omega arith in
+    rw more
+
+pub range_done : (r n : ℕ) → n ≡ 0 → over only r n ≡ []
+unfolding over
+range_done r n e = rw e
 
 -- an assignment to one register
 pub set_numbers : (r : ℕ) (x : Expr) → run (set_register r x) ≡ assigned r (expr x)
@@ -39,17 +35,13 @@ pub list_numbers : (a c n : ℕ) (t : Tail) → run (set_list a ((c - 1) * 50 + 
 unfolding run
 list_numbers a c n t = rw (count_registers_alone (a + 1) n)
 
--- one turn of a loop that joins registers
-pub concatenated_turn : (b : Buffer) (r n : ℕ) → 0 < n
-    → adds b (expr (concatenated r n)) ≡ adds (adds b (9 ∷ 7 ∷ 1 ∷ r ∷ [])) (expr (concatenated (r + 1) (n - 1)))
-unfolding concatenated expr adds
-concatenated_turn b r zero h = absurd (omega arith)
-concatenated_turn b r (suc n) h =
-    let left : suc n - 1 ≡ n = omega arith in
-    rw left
-
--- the last register
-pub concatenated_done : (r n : ℕ) → n ≤ 0 → expr (concatenated r n) ≡ 1 ∷ r ∷ []
+-- n registers from r on and one more, joined: the first of them, and the m behind it; and the last
+pub concatenated_turn : (r n m : ℕ) → n ≡ m + 1 → expr (concatenated r n) ≡ 9 ∷ 7 ∷ 1 ∷ r ∷ expr (concatenated (r + 1) m)
 unfolding concatenated expr
-concatenated_done r zero h = refl
-concatenated_done r (suc n) h = absurd (omega arith)
+concatenated_turn r n m e =
+    let more : n ≡ suc m = omega arith in
+    rw more
+
+pub concatenated_done : (r n s : ℕ) → n ≡ 0 → s ≡ r → expr (concatenated r n) ≡ 1 ∷ s ∷ []
+unfolding concatenated expr
+concatenated_done r n s e is = rw (e, is)

@@ -1,18 +1,16 @@
 -- Laws of captures: their numbers, their count, one turn of a loop over them. Assumes nothing.
-use Prim.Native.Nat.{ℕ, zero, suc, ◌+◌, ◌-◌, ◌≤◌, ◌<◌}
+use Prim.Native.Nat.{min, ℕ, zero, suc, ◌+◌, ◌≤◌, ◌<◌}
 use mathlib.Core.Bool.{Bool, true, false, cond}
 use mathlib.Core.Path.{◌≡◌, refl, sym, ap, ◌∙◌}
 use mathlib.Core.List.{[], ◌∷◌, ◌++◌, append-nil}
 use native.Mathlib.Omega.{arith}
-use lib.Dec.{ltb}
-use lib.ListN.{get_or-eq_default}
-use borrow.Author.Tests.{ltb-false}
+use lib.ListN.{get_or, drop, get_or-eq_default}
+use native.Mathlib.Decide.{dec_lt}
+use Rattle.std.proofs.lemmas.List.{get_or-drop}
 use Rattle.lua51_instruction.specs.Word.{MOVE}
 use Rattle.lua51_instruction.specs.Proto.{Proto, size, word, is, arg_b}
 use Rattle.ast.specs.Statement.{Exprs, register, upvalue, closure, set_register, run, expr, exprs, count}
 use Rattle.lua51_runs.specs.Runs.{assigned}
-use Rattle.ast.specs.Buffer.{Buffer, adds}
-use Rattle.ast.proofs.Adds.{adds_append, adds_none}
 use Rattle.lua51_lifter.specs.Lift.{captures}
 
 capture_numbers : (b : Bool) (x : ℕ) → expr (cond b (register x) (upvalue x)) ≡ cond b 1 5 ∷ x ∷ []
@@ -35,36 +33,25 @@ module _ (p : Proto) where
   word_past : (i : ℕ) → size p ≤ i → word p i ≡ 0
   word_past i h = get_or-eq_default p.words 0 h
 
-  captures_past : (i k n : ℕ) → size p ≤ i → size p ≤ k → captures p i n ≡ captures p k n
-  unfolding captures
-  captures_past i k zero h g = refl
-  captures_past i k (suc n) h g =
-      rw (word_past (i + 1) (omega arith), word_past (k + 1) (omega arith), captures_past (i + 1) (k + 1) n (omega arith) (omega arith))
+  -- word k of those behind word i, where they are dropped up to n, the largest place being m
+  pub word_behind : (i k n m : ℕ) → n ≡ min (size p) (min (i + 1) m) → size p ≤ m → word p (i + (k + 1)) ≡ get_or (drop n p.words) k 0
+  word_behind i k n m e most = go (dec_lt i (size p)) ∙ sym (get_or-drop n p.words k 0)
+    where
+      go : Dec (i < size p) → word p (i + (k + 1)) ≡ word p (n + k)
+      go (yes inside) = let same : i + (k + 1) ≡ n + k = omega arith in rw same
+      go (no past) = word_past (i + (k + 1)) (omega arith) ∙ sym (word_past (n + k) (omega arith))
 
   pub first_capture : (i n : ℕ) → exprs (captures p i (suc n)) ≡ (cond (is p (i + 1) MOVE) 1 5 ∷ arg_b p (i + 1) ∷ []) ++ exprs (captures p (i + 1) n)
   unfolding captures exprs
   first_capture i n = rw (capture_numbers (is p (i + 1) MOVE) (arg_b p (i + 1)))
 
-  -- one turn of a loop that writes n captures behind word i; k is the place behind it, or i itself past the words
-  pub captures_turn : (b : Buffer) (i k n : ℕ) → 0 < n → k ≡ cond (ltb i (size p)) (i + 1) i
-      → adds b (exprs (captures p i n)) ≡ adds (adds b (cond (is p k MOVE) 1 5 ∷ arg_b p k ∷ [])) (exprs (captures p k (n - 1)))
-  captures_turn b i k zero h e = absurd (omega arith)
-  captures_turn b i k (suc n) h e = go (ltb i (size p)) refl e
-    where
-      go : (t : Bool) → ltb i (size p) ≡ t → k ≡ cond t (i + 1) i
-          → adds b (exprs (captures p i (suc n))) ≡ adds (adds b (cond (is p k MOVE) 1 5 ∷ arg_b p k ∷ [])) (exprs (captures p k (suc n - 1)))
-      go true t e =
-          let left : suc n - 1 ≡ n = omega arith in
-          rw (e, left, first_capture i n) (adds_append b (cond (is p (i + 1) MOVE) 1 5 ∷ arg_b p (i + 1) ∷ []) (exprs (captures p (i + 1) n)))
-      go false t e =
-          let left : suc n - 1 ≡ n = omega arith in
-          let past : size p ≤ i = omega (arith, ltb-false i (size p) t) in
-          let same : word p (i + 1) ≡ word p i = word_past (i + 1) (omega arith) ∙ sym (word_past i past) in
-          rw (e, left, first_capture i n, captures_past (i + 1) i n (omega arith) past, same)
-          (adds_append b (cond (is p i MOVE) 1 5 ∷ arg_b p i ∷ []) (exprs (captures p i n)))
+  -- the first of n captures behind word i, which is in word j, and the m behind it; and none
+  pub captures_turn : (i j n m : ℕ) → j ≡ i + 1 → n ≡ m + 1
+      → exprs (captures p i n) ≡ cond (is p j MOVE) 1 5 ∷ arg_b p j ∷ exprs (captures p j m)
+  captures_turn i j n m next e =
+      let more : n ≡ suc m = omega arith in
+      rw (more, next) (first_capture i m)
 
-  -- the end of such a loop
-  pub captures_done : (b : Buffer) (i n : ℕ) → n ≤ 0 → adds b (exprs (captures p i n)) ≡ b
+  pub captures_done : (i n : ℕ) → n ≡ 0 → exprs (captures p i n) ≡ []
   unfolding captures exprs
-  captures_done b i zero h = adds_none b
-  captures_done b i (suc n) h = absurd (omega arith)
+  captures_done i n e = rw e

@@ -1,47 +1,27 @@
-// Operands as expressions: the numbers of those that may be a register or a constant.
-ghost use Rattle.std.specs.Prelude.{[], ◌∷◌, ◌≡◌};
+// Operands as expressions, where they may be registers or constants.
 ghost use Rattle.ast.specs.Statement.{expr, binary};
+ghost use Rattle.ast.specs.Written.{Adds};
 ghost use Rattle.lua51_lifter.specs.Lift.{rk};
 
-use ast::{BINARY, CONSTANT, REGISTER};
+use ast::{BINARY, CONSTANT, REGISTER, Run};
 use lua51_instruction::argument::{RegisterOrConstant, register_or_constant};
 use lua51_instruction::instruction::Fields;
 
-// An expression of two numbers: its kind, and which of that kind.
-#[derive(Clone, Copy)]
-pub struct Leaf {
-    pub kind: u32,
-    pub number: u32,
-}
-
-// An operand that may be a register or a constant, as an expression.
-pub fn operand(x: u16) -> Leaf
-    ensures { expr (rk x) ≡ result.kind ∷ result.number ∷ [] }
+// Writes an operand that may be a register or a constant.
+pub fn push_operand(run: &mut Run, x: u16)
+    ensures { Adds run.old run.new (expr (rk x)) }
 {
     match register_or_constant(x) {
-        RegisterOrConstant::Register(r) => Leaf {
-            kind: REGISTER,
-            number: r as u32,
-        },
-        RegisterOrConstant::Constant(k) => Leaf {
-            kind: CONSTANT,
-            number: k as u32,
-        },
+        RegisterOrConstant::Register(r) => run.push_all(&[REGISTER, r as u32]),
+        RegisterOrConstant::Constant(k) => run.push_all(&[CONSTANT, k as u32]),
     }
 }
 
-// The numbers of 'RK(B) operator RK(C)'.
-pub fn binary_of(w: Fields, operator: u32) -> [u32; 6]
-    ensures { expr (binary operator (rk w.b) (rk w.c)) ≡ result }
+// Writes 'RK(B) operator RK(C)'.
+pub fn push_binary(run: &mut Run, w: Fields, operator: u32)
+    ensures { Adds run.old run.new (expr (binary operator (rk w.b) (rk w.c))) }
 {
-    let first = operand(w.b);
-    let second = operand(w.c);
-    [
-        BINARY,
-        operator,
-        first.kind,
-        first.number,
-        second.kind,
-        second.number,
-    ]
+    run.push_all(&[BINARY, operator]);
+    push_operand(run, w.b);
+    push_operand(run, w.c);
 }

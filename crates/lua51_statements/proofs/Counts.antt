@@ -1,6 +1,7 @@
 -- Laws of how many statements a word gives, and which. Assumes nothing.
 use Prim.Native.Nat.{ℕ, zero, suc, ◌-◌, ◌≤◌, ◌<◌}
-use mathlib.Core.Bool.{Bool, true, false, cond, ◌||◌}
+use mir.Val.{bool_byte}
+use mathlib.Core.Bool.{not, Bool, true, false, cond, ◌||◌}
 use mathlib.Core.Path.{◌≡◌, refl}
 use mathlib.Core.List.{[]}
 use native.Mathlib.Omega.{arith}
@@ -30,6 +31,14 @@ none_or_both : {arg_a : Type 0} (b d : Bool) (x y : arg_a) → length (cond b []
 none_or_both true d x y = refl
 none_or_both false true x y = refl
 none_or_both false false x y = refl
+
+-- whether x is above 0, as a number
+pub one_unless : (x : ℕ) → bool_byte (not (eqb x 0)) ≡ cond (eqb x 0) 0 1
+one_unless x = go (eqb x 0)
+  where
+    go : (b : Bool) → bool_byte (not b) ≡ cond b 0 1
+    go true = refl
+    go false = refl
 
 -- k is below 1, and x is above 0
 pub positive : (x k : ℕ) → k < cond (eqb x 0) 0 1 → (k ≡ 0) × (0 < x)

@@ -1,4 +1,3 @@
 pub mod Counts
 pub mod Nils
 pub mod Pieces
-pub mod Standing

@@ -1,17 +1,20 @@
 -- The lines 'R(r) gets nil', as LOADNIL and the entry block have them. Assumes nothing.
 use Prim.Native.Nat.{ℕ, zero, suc, ◌+◌, ◌-◌, ◌*◌, ◌≤◌, ◌<◌}
-use mathlib.Core.List.{List, [], ◌∷◌, flat_map}
-use mathlib.Core.Path.{◌≡◌, refl, ap, ◌∙◌}
+use mathlib.Core.List.{List, [], ◌∷◌, ◌++◌, flat_map, append-nil}
+use mathlib.Core.Path.{◌≡◌, refl, ap, sym, ◌∙◌}
 use native.Mathlib.Omega.{arith}
 use lib.ListN.{length, length-append}
 use lib.Seq.{take_all}
+use Rattle.std.proofs.lemmas.List.{map-append}
+use Rattle.std.proofs.lemmas.Grind.{flat_map-append}
 use Rattle.lines.specs.Line.{letter_s, line}
 use Rattle.lines.specs.Cell.{most_in_columns}
-use Rattle.lines.specs.Out.{Out, puts}
+use Rattle.lines.specs.Out.{Puts}
+use Rattle.lines.specs.declared.Output.{Output}
 use Rattle.lines.proofs.Decimal.{line_length}
-use Rattle.lines.proofs.Puts.{puts_append, puts_none}
+use Rattle.lines.proofs.Puts.{puts_nothing, puts_then, puts_equal}
 use Rattle.basics.specs.Range.{over, only}
-use Rattle.basics.proofs.Range.{over_length}
+use Rattle.basics.proofs.Range.{over_length, over_split}
 use Rattle.lua51_instruction.specs.Word.{LOADNIL, number_of, op_of}
 use Rattle.lua51_instruction.specs.Proto.{Proto, opcode, arg_a, arg_b}
 use Rattle.ast.specs.Statement.{Stmt, run, count, exprs, expr, nil, set_register}
@@ -55,20 +58,25 @@ module _ (i o : ℕ) where
       rw (length-append (statement_line (name i o (set_register r nil))) (flat_map statement_line (naming i o (nils (r + 1) n))))
       (omega (arith, nil_length r a b (omega arith), nils_length (r + 1) n a b (omega arith)))
 
-  -- one turn of a loop that prints them
-  pub nils_turn : (out : Out) (r n : ℕ) → 0 < n
-      → puts out (flat_map statement_line (naming i o (nils r n)))
-      ≡ puts (puts out (line letter_s (i ∷ o ∷ 1 ∷ 1 ∷ 1 ∷ 1 ∷ r ∷ 3 ∷ []))) (flat_map statement_line (naming i o (nils (r + 1) (n - 1))))
+  -- a loop that prints them: its start, and one turn
+  pub nils_start : (out : Output) (r : ℕ) → Puts out out (flat_map statement_line (naming i o (nils r 0)))
   unfolding over naming flat_map
-  nils_turn out r zero h = absurd (omega arith)
-  nils_turn out r (suc n) h =
-      let left : suc n - 1 ≡ n = omega arith in
-      rw (left, ← nil_line r) (puts_append out (statement_line (name i o (set_register r nil))) (flat_map statement_line (naming i o (nils (r + 1) n))))
+  nils_start out r = puts_nothing out
 
-  pub nils_done : (out : Out) (r n : ℕ) → n ≤ 0 → puts out (flat_map statement_line (naming i o (nils r n))) ≡ out
+  nils_more : (r n : ℕ)
+      → flat_map statement_line (naming i o (nils r n)) ++ line letter_s (i ∷ o ∷ 1 ∷ 1 ∷ 1 ∷ 1 ∷ (r + n) ∷ 3 ∷ [])
+      ≡ flat_map statement_line (naming i o (nils r (n + 1)))
   unfolding over naming flat_map
-  nils_done out r zero h = puts_none out
-  nils_done out r (suc n) h = absurd (omega arith)
+  nils_more r n =
+      let says = λ (x : ℕ). only (set_register x nil) in
+      let one = only (set_register (r + n) nil) in
+      sym
+      (rw (over_split says r n 1, map-append, flat_map-append statement_line (naming i o (nils r n)) (naming i o one), append-nil) (rw (nil_line (r + n))))
+
+  pub nils_turn : {a b c : Output} (r n : ℕ) → Puts a b (flat_map statement_line (naming i o (nils r n)))
+      → Puts b c (line letter_s (i ∷ o ∷ 1 ∷ 1 ∷ 1 ∷ 1 ∷ (r + n) ∷ 3 ∷ []))
+      → Puts a c (flat_map statement_line (naming i o (nils r (n + 1))))
+  nils_turn r n p q = puts_equal (nils_more r n) (puts_then p q)
 
   -- a buffer of 6 numbers holds each
   pub nils_whole : (room : ℕ) → 6 ≤ room → (r n : ℕ) → flat_map (line_within room) (naming i o (nils r n)) ≡ flat_map statement_line (naming i o (nils r n))

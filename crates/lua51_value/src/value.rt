@@ -4,8 +4,7 @@ ghost use Rattle.lua51_instruction.specs.Word.{bits};
 ghost use Rattle.lua51_value.specs.Constant.{within, pattern_at, number_of, pattern_of, pieces_of, Reads};
 
 use crate::bytes::int_at;
-use basics::numbers::wider;
-use basics::slices::byte_at;
+use basics::slices::at_or;
 use lua51_instruction::bits::field;
 
 // The bits of infinity, the sign left out: a NaN's are above them.
@@ -15,7 +14,8 @@ const SIGN: u64 = 1 << 63;
 // The bits of the NaN that arithmetic gives.
 const STANDARD_NAN: u64 = 0x7FF8000000000000;
 
-// The kinds of constants: the byte that stands before each.
+// The kinds of constants: the byte that stands before each, and in the buffers of kinds. Bytes, and no enum: it would be made of a byte
+// and be a byte again at each use, where `match` on these names is as plain.
 pub const KIND_NIL: u8 = 0;
 
 pub const KIND_BOOLEAN: u8 = 1;
@@ -49,21 +49,15 @@ const HIGH_WORTH: u64 = 1 << 32;
 pub fn place_after(s: &[u8], at: usize, k: usize) -> usize
     ensures { result ≡ within s.now (at + k) }
 {
-    if s.len() <= at {
-        return s.len();
-    }
-    if s.len() - at <= k {
-        return s.len();
-    }
-    at + k
+    at.saturating_add(k).min(s.len())
 }
 
 // The 64 bits at an offset, the lowest byte first.
 pub fn pattern_at(s: &[u8], at: usize) -> u64
     ensures { result ≡ pattern_at s.now at }
 {
-    let low = wider(int_at(s, at));
-    let high = wider(int_at(s, place_after(s, at, HIGH_FROM)));
+    let low = u64::from(int_at(s, at));
+    let high = u64::from(int_at(s, place_after(s, at, HIGH_FROM)));
     low + HIGH_WORTH * high
 }
 
@@ -77,54 +71,34 @@ pub fn number(pattern: u64) -> Constant
     Constant::Number(f64::from_bits(pattern))
 }
 
-// The length of a string without its last byte, by its size.
-fn text_length(size: u32) -> usize
-    ensures { result ≡ size - 1 }
-{
-    if size == 0 {
-        return 0;
-    }
-    (size - 1) as usize
-}
-
 // The constant whose kind stands at an offset. Where none was read there, it is what the bytes at hand give: a boolean
 // above 1 is true, and a kind that is not listed is read as a string's.
 pub fn constant_at(s: &[u8], at: usize) -> Constant
     ensures { Reads s.now at result }
 {
-    let kind = byte_at(s, at);
-    if kind == KIND_NIL {
-        return Constant::Nil;
-    }
+    let kind = at_or(s, at, 0);
     let content = place_after(s, at, CONTENT_FROM);
-    if kind == KIND_BOOLEAN {
-        return Constant::Boolean(byte_at(s, content) != 0);
-    }
-    if kind == KIND_NUMBER {
-        return number(pattern_at(s, content));
-    }
-    Constant::String {
-        at: place_after(s, at, TEXT_FROM),
-        len: text_length(int_at(s, content)),
+    match kind {
+        KIND_NIL => Constant::Nil,
+        KIND_BOOLEAN => Constant::Boolean(at_or(s, content, 0) != 0),
+        KIND_NUMBER => number(pattern_at(s, content)),
+        _ => Constant::String {
+            at: place_after(s, at, TEXT_FROM),
+            len: int_at(s, content).saturating_sub(1) as usize,
+        },
     }
 }
 
 // The 64 bits of a number; 0 of the other constants.
+#[tactic(auto, unfolding(crate::specs::Constant::pattern_of))]
 pub fn pattern_of(c: Constant) -> u64
     ensures { result ≡ pattern_of c }
 {
     match c {
-        Constant::Number(x) => {
-            if x == x {
-                f64::to_bits(x)
-            } else {
-                STANDARD_NAN
-            }
-        }
+        Constant::Number(x) if x.is_nan() => STANDARD_NAN,
+        Constant::Number(x) => x.to_bits(),
         Constant::NotANumber(pattern) => pattern,
-        Constant::Nil => 0,
-        Constant::Boolean(_) => 0,
-        Constant::String { at: _, len: _ } => 0,
+        Constant::Nil | Constant::Boolean(_) | Constant::String { .. } => 0,
     }
 }
 

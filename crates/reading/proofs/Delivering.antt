@@ -2,7 +2,7 @@
 use Prim.Native.Nat.{ℕ, ◌+◌, ◌≤◌, ◌<◌, min}
 use native.Mathlib.Omega.{arith}
 use mathlib.Core.Bool.{Bool, true, false}
-use mathlib.Core.Path.{◌≡◌, sym, ◌∙◌, ap}
+use mathlib.Core.Path.{◌≡◌, ◌∙◌, ap}
 use mathlib.Core.List.{List}
 use lib.Dec.{leb}
 use lib.ListN.{length}
@@ -17,10 +17,8 @@ use Rattle.block_lines.specs.Lines.{run_numbers}
 use Rattle.listing.specs.Printed.{printed, Lists}
 use Rattle.judging.specs.Judge.{given, refusal, judge, listing_of}
 use Rattle.judging.specs.Refusal.{refusal_of}
-use Rattle.judging.specs.Answers.{answer_of, Whole}
+use Rattle.judging.specs.Answers.{Whole}
 use Rattle.judging.specs.declared.refusal.Refusal.{Refusal}
-use Rattle.judging.specs.declared.Answer as code
-use Rattle.judging.specs.declared.Answer.TheVariants.{Given, Refused}
 use Rattle.judging.proofs.Acceptance.{accepted, accepted_count, accepted_whole}
 use Rattle.judging.proofs.Judging.{count_whole, few_functions}
 use Rattle.judging.proofs.Refusals.{refused}
@@ -75,22 +73,15 @@ module _ (bytes out : List ℕ) (n : ℕ) (counted : n ≡ min (length bytes) la
     unfolding written
     short_by_count short = let h : length out < length bytes = omega arith in rw (left, lt-leb (length bytes) (length out) h)
 
-    pub written_by_count : n ≤ length out → length out < largest_usize
-        → record { answer = given n; reading = record { is_open = true; next = r.next + 1; table = r.table }; output = out' } ≡ written r bytes out
+    pub written_by_count : r.is_open ≡ true → n ≤ length out → length out < largest_usize
+        → record { answer = given n; reading = record { is_open = r.is_open; next = r.next + 1; table = r.table }; output = out' } ≡ written r bytes out
     unfolding written
-    written_by_count roomy few =
+    written_by_count opened roomy few =
         let whole : n ≡ length bytes = omega arith in
         let fits : length bytes ≤ length out = omega arith in
-        rw (left, whole, le-leb (length bytes) (length out) fits)
+        rw (left, whole, opened, le-leb (length bytes) (length out) fits)
 
 -- ------------------------------------------------------------ the next function
-
--- the judgement, by the code's answer
-pub judge_refuses : (back : ℕ → ℕ) (s : List ℕ) (a : code.Answer) (x : Refusal) → answer_of a ≡ judge back s → a ≡ Refused x → refusal_of x ≡ judge back s
-judge_refuses back s a x j e = sym (ap answer_of e) ∙ j
-
-pub judge_given : (back : ℕ → ℕ) (s : List ℕ) (a : code.Answer) (n : ℕ) → answer_of a ≡ judge back s → a ≡ Given n → judge back s ≡ given n
-judge_given back s a n j e = sym j ∙ ap answer_of e
 
 module _ (table s : List ℕ) (functions : Functions) (f : ℕ) (next : Next table s functions f) where
   abbrev back : ℕ → ℕ

@@ -1,11 +1,9 @@
 -- What a load leaves, and that the bytes which load are the lines of permutations. Assumes nothing.
 use Prim.Native.Nat.{ℕ}
 use mathlib.Core.List.{List}
-use mathlib.Core.Path.{◌≡◌, refl, sym, ap, ◌∙◌}
+use mathlib.Core.Path.{◌≡◌, refl, sym}
 use Rattle.house_loading.specs.Loading.{load_verdict}
-use Rattle.house_loading.specs.TableVerdict.{table_verdict_of, table_bytes}
-use Rattle.house_loading.specs.declared.TableVerdict.{TableVerdict}
-use Rattle.house_loading.specs.declared.TableVerdict.TheVariants.{Fine, Refused}
+use Rattle.house_loading.specs.TableVerdict.{table_fault_number, table_fault_place, table_bytes}
 use Rattle.house_loading.specs.declared.TableFault.{TableFault}
 use Rattle.house_loading.proofs.Loading.{only_permutations, numbers_loaded}
 use Rattle.house_loading.proofs.Permutations.{all_permutations}
@@ -48,14 +46,13 @@ every_permutation_loads r table out h =
 
 -- ------------------------------------------------------------ how the code comes to it
 
-module _ (r : Reading) (s : List ℕ) (v : TableVerdict) (e : table_verdict_of v ≡ load_verdict s) where
-  pub load_refused : (fault : TableFault) → v ≡ Refused fault → (out : List ℕ) → unchanged r out (refusal_of (Table fault)) ≡ loading r s out
+module _ (r : Reading) (s out : List ℕ) where
+  pub load_refused : (fault : TableFault) → wrong (table_fault_number fault) (table_fault_place fault) ≡ load_verdict s
+      → unchanged r out (refusal_of (Table fault)) ≡ loading r s out
   unfolding loading loaded_by
-  load_refused fault h out = rw (← e, h)
+  load_refused fault e = rw (← e)
 
-  pub load_fine : v ≡ Fine → (table : List ℕ) → table ≡ table_bytes s → (out : List ℕ)
+  pub load_fine : (table : List ℕ) → fine ≡ load_verdict s → table ≡ table_bytes s
       → record { answer = given 0; reading = record { is_open = r.is_open; next = r.next; table = table }; output = out } ≡ loading r s out
   unfolding loading loaded_by
-  load_fine h table q out =
-      let ok : load_verdict s ≡ fine = sym e ∙ ap table_verdict_of h in
-      rw (ok, q, numbers_loaded s ok)
+  load_fine table e q = rw (← e, q, numbers_loaded s (sym e))

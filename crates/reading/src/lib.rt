@@ -5,19 +5,19 @@ pub mod deliver; // the listing of the next function
 pub mod load; // a house table
 
 ghost use Rattle.std.specs.Prelude.{◌≡◌, List, ℕ};
-ghost use Rattle.judging.specs.Refusal.{refusal_of};
-ghost use Rattle.reading.specs.Reading.{closed, opening, unchanged};
-ghost use Rattle.reading.specs.Opening.{reading_of, outcome_of};
+ghost use Rattle.reading.specs.Reading.{closed, opening};
+ghost use Rattle.reading.specs.Opening.{reading_of, outcome_by, outcome_of};
 
 use house_table::{OPCODES, lua};
+use judging::judge;
 use judging::refusal::Refusal;
-use judging::{Answer, judge};
 
 // The listing program's output buffer (document 01, 'Its output buffer is 65,536 bytes').
 pub const PROGRAM_BUFFER: usize = 65536;
 
 // A reading of a chunk: whether it is open, the function whose listing comes next, and the house table. It goes into each call and comes
-// back.
+// back (document 01, 'The reading is a value that goes in and comes back'), so that a call gives more than an answer (`Called`). The next
+// function is no part of being open: a closed reading has one too, which its refusal 31 tells, and which a caller in C may have put there.
 #[derive(Clone, Copy)]
 pub struct Reading {
     pub opened: bool,
@@ -36,48 +36,35 @@ impl Reading {
             table: lua(),
         }
     }
+
+    // An opening, which alters the reading and gives the chunk's count of functions.
+    fn open(&mut self, s: &[u8]) -> Result<usize, Refusal>
+        ensures { (out : List ℕ) → outcome_by result self.new out ≡ opening (reading_of self.old) s.now out }
+    {
+        self.opened = false;
+        self.next = 0;
+        let count = judge(s, self.table)?;
+        self.opened = true;
+        Ok(count)
+    }
 }
 
 // What a call gives, and the reading that it leaves.
 #[derive(Clone, Copy)]
 pub struct Called {
-    pub answer: Answer,
+    pub answer: Result<usize, Refusal>,
     pub reading: Reading,
 }
 
-// A refused load or delivery: the reading keeps what it held.
-fn refused(reading: Reading, refusal: Refusal) -> Called
-    ensures { (out : List ℕ) → outcome_of result out ≡ unchanged (reading_of reading) out (refusal_of refusal) }
-{
-    Called {
-        answer: Answer::Refused(refusal),
-        reading,
-    }
-}
-
-// Judges a whole chunk under the reading's table, and opens the reading at function 0. Where the chunk is refused the reading is closed, at
-// function 0. The table stays.
+// Judges a whole chunk under the reading's table, opens the reading at function 0, and gives the chunk's count of functions. Where the
+// chunk is refused the reading is closed, at function 0. The table stays.
 pub fn open(reading: Reading, s: &[u8]) -> Called
     ensures { (out : List ℕ) → outcome_of result out ≡ opening (reading_of reading) s.now out }
 {
-    let table = reading.table;
-    let answer = judge(s, table);
-    let Answer::Given(_) = answer else {
-        return Called {
-            answer,
-            reading: Reading {
-                opened: false,
-                next: 0,
-                table,
-            },
-        };
-    };
+    let mut left = reading;
+    let answer = left.open(s);
     Called {
         answer,
-        reading: Reading {
-            opened: true,
-            next: 0,
-            table,
-        },
+        reading: left,
     }
 }

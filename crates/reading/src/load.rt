@@ -1,31 +1,34 @@
 // Loading a house table of opcode numbers.
 ghost use Rattle.std.specs.Prelude.{◌≡◌, List, ℕ};
 ghost use Rattle.reading.specs.Loading.{loading};
-ghost use Rattle.reading.specs.Opening.{reading_of, outcome_of};
+ghost use Rattle.reading.specs.Opening.{reading_of, load_outcome_by, outcome_of};
 
-use crate::{Called, Reading, refused};
-use house_loading::{TableVerdict, table_numbers, table_verdict};
-use judging::Answer;
+use crate::{Called, Reading};
+use house_loading::table_of;
 use judging::refusal::Refusal;
 
 // A load has nothing to give.
 const NOTHING: usize = 0;
 
+impl Reading {
+    // A load, which alters the reading.
+    fn load(&mut self, s: &[u8]) -> Result<(), Refusal>
+        ensures { (out : List ℕ) → load_outcome_by result self.new out ≡ loading (reading_of self.old) s.now out }
+    {
+        let table = table_of(s)?;
+        self.table = table;
+        Ok(())
+    }
+}
+
 // Loads the bytes of a table into the reading. A refused load leaves the reading as it was, and no load moves it.
 pub fn load(reading: Reading, s: &[u8]) -> Called
     ensures { (out : List ℕ) → outcome_of result out ≡ loading (reading_of reading) s.now out }
 {
-    let verdict = table_verdict(s);
-    if let TableVerdict::Refused(fault) = verdict {
-        return refused(reading, Refusal::Table(fault));
-    }
-    let table = table_numbers(s);
+    let mut left = reading;
+    let answer = left.load(s).map(|()| NOTHING);
     Called {
-        answer: Answer::Given(NOTHING),
-        reading: Reading {
-            opened: reading.opened,
-            next: reading.next,
-            table,
-        },
+        answer,
+        reading: left,
     }
 }

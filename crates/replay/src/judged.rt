@@ -1,11 +1,11 @@
 // Records of chunks with what the walk over them and their judgement answer.
-use crate::record::{MOST_LENGTH, Outcome, number_at, outcome_of, read_part};
+use crate::record::{MOST_LENGTH, NotWhole, Outcome, number_at, read_bytes};
 use house_table::lua;
 use input::read_full;
-use judging::refusal::{Refusal, numbers_of};
-use judging::{Answer, judge};
-use lua51_deserializer::chunk::{Functions, MOST_FUNCTIONS, Walked, walk};
-use lua51_deserializer::fields::Cursor;
+use judging::judge;
+use judging::refusal::{Numbers, Refusal};
+use lua51_deserializer::chunk::{Functions, walk};
+use lua51_deserializer::fields::ChunkFault;
 use lua51_value::bytes::int_at;
 use std::io::Read;
 
@@ -37,68 +37,51 @@ const PARENT: usize = 8;
 
 const MOST_FUNCTION_BYTES: usize = 3072;
 
-// Whether the first `count` functions stand where the record has them.
-fn same_functions(functions: Functions, count: usize, recorded: &[u8]) -> bool {
-    if MOST_FUNCTIONS < count {
+// Whether the functions stand where the record has them.
+fn same_functions(functions: &Functions, recorded: &[u8]) -> bool {
+    let Some(places) = functions.places.get(..functions.count) else {
         return false;
-    }
-    let mut i: usize = 0;
-    while i < count {
-        let at = i * FUNCTION_SIZE;
-        if functions.starts[i] != int_at(recorded, at + START) {
-            return false;
-        }
-        if functions.tails[i] != int_at(recorded, at + TAIL) {
-            return false;
-        }
-        if functions.parents[i] as usize != number_at(recorded, at + PARENT) {
-            return false;
-        }
-        i += 1;
-    }
-    true
+    };
+    places.iter().zip(recorded.chunks_exact(FUNCTION_SIZE)).all(|(place, numbers)| {
+        place.start == int_at(numbers, START)
+            && place.tail == int_at(numbers, TAIL)
+            && u32::from(place.parent) == int_at(numbers, PARENT)
+    })
 }
 
 // Whether the walk ended as the record has it: number and place are 0 where it came to the end.
-fn same_end(cursor: Cursor, head: &[u8]) -> bool {
+fn same_end(end: Result<usize, ChunkFault>, head: &[u8]) -> bool {
     let number = number_at(head, NUMBER);
     let place = number_at(head, PLACE);
-    match cursor {
-        Cursor::Here(_) => (number == 0) & (place == 0),
-        Cursor::Refused(fault) => {
-            let refused = numbers_of(Refusal::Chunk(fault));
-            (refused.number == number) & (refused.place == place)
+    match end {
+        Ok(_) => number == 0 && place == 0,
+        Err(fault) => {
+            let refused = Numbers::from(Refusal::from(fault));
+            refused.number == number && refused.place == place
         }
     }
 }
 
 // Whether the walk's answer is the recorded one.
-fn same_walk(walked: Walked, head: &[u8], recorded: &[u8]) -> bool {
-    let cursor = walked.cursor;
-    let functions = walked.functions;
-    let count = functions.count;
-    if !same_end(cursor, head) {
-        return false;
-    }
-    if count != number_at(head, COUNT) {
-        return false;
-    }
-    same_functions(functions, count, recorded)
+fn walked_alike(s: &[u8], head: &[u8], recorded: &[u8]) -> bool {
+    let mut functions = Functions::new();
+    let end = walk(s, &mut functions);
+    same_end(end, head)
+        && functions.count == number_at(head, COUNT)
+        && same_functions(&functions, recorded)
 }
 
 // Whether the judgement is the recorded one. Of an accepted chunk it is the count of functions, which is the walk's, and the
 // record's numbers are 0.
-fn same_judgement(answer: Answer, head: &[u8]) -> bool {
+fn same_judgement(answer: Result<usize, Refusal>, head: &[u8]) -> bool {
     let number = number_at(head, JUDGED_NUMBER);
     let function = number_at(head, JUDGED_FUNCTION);
     let place = number_at(head, JUDGED_PLACE);
     match answer {
-        Answer::Given(count) => {
-            (count == number_at(head, COUNT)) & (number == 0) & (function == 0) & (place == 0)
-        }
-        Answer::Refused(refusal) => {
-            let refused = numbers_of(refusal);
-            (refused.number == number) & (refused.function == function) & (refused.place == place)
+        Ok(count) => count == number_at(head, COUNT) && number == 0 && function == 0 && place == 0,
+        Err(refusal) => {
+            let refused = Numbers::from(refusal);
+            refused.number == number && refused.function == function && refused.place == place
         }
     }
 }
@@ -108,29 +91,18 @@ fn judged_alike(s: &[u8], head: &[u8]) -> bool {
     same_judgement(judge(s, lua()), head)
 }
 
-// The next record: read, walked, judged and compared. One that is not whole differs.
+// The next record: read, walked, judged and compared.
 pub fn judged_record(file: &mut impl Read) -> Outcome {
     let mut head = [0u8; HEAD_SIZE];
-    let got = read_full(file, &mut head);
-    if got == 0 {
-        return Outcome::End;
-    }
-    if got < HEAD_SIZE {
-        return Outcome::Differs;
+    match read_full(file, &mut head) {
+        0 => return Ok(None),
+        HEAD_SIZE => {}
+        _ => return Err(NotWhole),
     }
     let mut recorded = [0u8; MOST_FUNCTION_BYTES];
-    let known = number_at(&head, COUNT) * FUNCTION_SIZE;
-    if read_part(file, &mut recorded, known) != known {
-        return Outcome::Differs;
-    }
+    let known = read_bytes(file, &mut recorded, number_at(&head, COUNT) * FUNCTION_SIZE)?;
     let mut chunk = [0u8; MOST_LENGTH];
-    let length = number_at(&head, LENGTH);
-    let n = read_part(file, &mut chunk, length);
-    if n != length {
-        return Outcome::Differs;
-    }
-    if !same_walk(walk(&chunk[..n]), &head, &recorded) {
-        return Outcome::Differs;
-    }
-    outcome_of(judged_alike(&chunk[..n], &head))
+    let n = read_bytes(file, &mut chunk, number_at(&head, LENGTH))?;
+    let s = &chunk[..n];
+    Ok(Some(walked_alike(s, &head, &recorded[..known]) && judged_alike(s, &head)))
 }

@@ -1,7 +1,8 @@
 // Records of chunks with what the listing program writes for them.
-use crate::record::{MOST_LENGTH, Next, Outcome, next_number, outcome_of, read_part};
-use judging::Answer;
-use judging::refusal::{Refusal, numbers_of, put_refusal};
+ghost use Rattle.std.specs.Prelude.{◌≤◌, length};
+
+use crate::record::{MOST_LENGTH, Outcome, read_first, read_part};
+use judging::refusal::{Numbers, Refusal, put_refusal};
 use lines::{LETTER_B, LETTER_S};
 use reading::deliver::deliver;
 use reading::{PROGRAM_BUFFER, Reading, open};
@@ -22,124 +23,92 @@ const LINE: usize = 64;
 // Deliveries from an accepted chunk, the one that finds no function among them, are not more than these.
 const MOST_DELIVERIES: usize = 257;
 
-// The place behind the first `count` bytes of a piece, where the recorded output has these at a place; else a place behind its end.
-fn matched(piece: &[u8], count: usize, recorded: &[u8], at: usize) -> usize {
-    let lost = recorded.len() + 1;
-    if piece.len() < count {
-        return lost;
-    }
-    if recorded.len() < at {
-        return lost;
-    }
-    if recorded.len() - at < count {
-        return lost;
-    }
-    let behind = at + count;
-    if piece[..count] == recorded[at..behind] {
-        return behind;
-    }
-    lost
-}
-
-// The place behind the X line of a refusal, where the recorded output has it at a place; else a place behind its end.
-pub fn behind_line(refusal: Refusal, recorded: &[u8], at: usize) -> usize {
+// What is recorded behind the X line of a refusal, if that is what comes first.
+pub fn behind_line(refusal: Refusal, recorded: &[u8]) -> Option<&[u8]> {
     let mut line = [0u8; LINE];
-    let count = put_refusal(&mut line, 0, numbers_of(refusal));
-    matched(&line, count, recorded, at)
+    let count = put_refusal(&mut line, 0, Numbers::from(refusal));
+    recorded.strip_prefix(line.get(..count)?)
 }
 
 // Whether the recorded output ends with the X line of a refusal, or, where all functions are delivered, without one.
-fn ends_with(refusal: Refusal, recorded: &[u8], at: usize) -> bool {
+fn ends_with(refusal: Refusal, recorded: &[u8]) -> bool {
     if let Refusal::NoFunction(_) = refusal {
-        return at == recorded.len();
+        return recorded.is_empty();
     }
-    behind_line(refusal, recorded, at) == recorded.len()
+    match behind_line(refusal, recorded) {
+        Some(behind) => behind.is_empty(),
+        None => false,
+    }
 }
 
-// Takes what the original does not tell out of the first `count` bytes of a listing, and gives how many bytes are left. In a line no
-// letter stands but the first.
-fn take_untold_out(listing: &mut [u8], count: usize) -> usize {
+// Takes what the original does not tell out of a listing, and gives how many bytes are left. In a line no letter stands but the first.
+fn take_untold_out(listing: &mut [u8]) -> usize
+    ensures { result ≤ length listing.new }
+{
     let mut kept = 0;
-    let mut i = 0;
-    let mut untold = listing.len();
-    while i < listing.len() {
-        if count <= i {
-            return kept;
+    let mut untold = 0..0;
+    for i in 0..listing.len() {
+        if untold.contains(&i) {
+            continue;
         }
         let byte = listing[i];
         listing[kept] = byte;
         kept += 1;
-        i += 1;
+        let behind = i + 1;
         if byte == LETTER_S {
-            untold = i;
+            untold = behind..behind + UNTOLD_COLUMNS;
         }
         if byte == LETTER_B {
-            untold = i + BLOCK_COLUMNS;
-        }
-        if i == untold {
-            i += UNTOLD_COLUMNS;
+            untold = behind + BLOCK_COLUMNS..behind + BLOCK_COLUMNS + UNTOLD_COLUMNS;
         }
     }
     kept
 }
 
-// How many bytes of a listing are compared: all of them, or those that are left without what the original does not tell.
-fn compared(listing: &mut [u8], count: usize, whole: bool) -> usize {
+// What is recorded behind a listing, if that is what comes first: the whole of it, or what is left without what the original does not tell.
+fn behind_listing<'a>(listing: &mut [u8], recorded: &'a [u8], whole: bool) -> Option<&'a [u8]> {
     if whole {
-        return count;
+        return recorded.strip_prefix(listing);
     }
-    take_untold_out(listing, count)
+    let kept = take_untold_out(listing);
+    recorded.strip_prefix(&listing[..kept])
 }
 
 // Whether opening a chunk, from a reading for its table, and delivering its functions one after the other gives the recorded output,
 // whole or without what the original does not tell.
 pub fn same_output(closed: Reading, s: &[u8], recorded: &[u8], whole: bool) -> bool {
     let opened = open(closed, s);
-    let answer = opened.answer;
-    if let Answer::Refused(refusal) = answer {
-        return ends_with(refusal, recorded, 0);
+    if let Err(refusal) = opened.answer {
+        return ends_with(refusal, recorded);
     }
-    let mut out = [0u8; PROGRAM_BUFFER];
     let mut reading = opened.reading;
-    let mut at = 0;
-    let mut left = MOST_DELIVERIES;
-    while 0 < left {
+    let mut out = [0u8; PROGRAM_BUFFER];
+    let mut rest = recorded;
+    for _ in 0..MOST_DELIVERIES {
         let delivered = deliver(reading, s, &mut out);
-        let delivery = delivered.answer;
         reading = delivered.reading;
-        match delivery {
-            Answer::Refused(refusal) => return ends_with(refusal, recorded, at),
-            Answer::Given(count) => {
-                let kept = compared(&mut out, count, whole);
-                at = matched(&out, kept, recorded, at);
-            }
-        }
-        left -= 1;
+        let count = match delivered.answer {
+            Ok(count) => count,
+            Err(refusal) => return ends_with(refusal, rest),
+        };
+        let Some(listing) = out.get_mut(..count) else {
+            return false;
+        };
+        let Some(behind) = behind_listing(listing, rest, whole) else {
+            return false;
+        };
+        rest = behind;
     }
     false
 }
 
-// The next record: read, opened, delivered and compared. One that is not whole differs.
+// The next record: read, opened, delivered and compared.
 pub fn listed_record(file: &mut impl Read) -> Outcome {
-    let first = next_number(file);
-    if let Next::End = first {
-        return Outcome::End;
-    }
-    let Next::Number(length) = first else {
-        return Outcome::Differs;
-    };
     let mut chunk = [0u8; MOST_LENGTH];
-    let n = read_part(file, &mut chunk, length);
-    if n != length {
-        return Outcome::Differs;
-    }
-    let Next::Number(size) = next_number(file) else {
-        return Outcome::Differs;
+    let Some(n) = read_first(file, &mut chunk)? else {
+        return Ok(None);
     };
     let mut recorded = [0u8; MOST_OUTPUT];
-    let m = read_part(file, &mut recorded, size);
-    if m != size {
-        return Outcome::Differs;
-    }
-    outcome_of(same_output(Reading::new(), &chunk[..n], &recorded[..m], true))
+    let m = read_part(file, &mut recorded)?;
+    Ok(Some(same_output(Reading::new(), &chunk[..n], &recorded[..m], true)))
 }

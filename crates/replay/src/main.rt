@@ -12,67 +12,46 @@ use crate::house::house_record;
 use crate::judged::judged_record;
 use crate::listed::listed_record;
 use crate::original::original_record;
-use crate::record::Outcome;
+use crate::record::{NotWhole, Outcome};
 use std::fs;
-use std::io::Read;
 use std::rt::Files;
-
-// The kinds of records.
-#[derive(Clone, Copy)]
-enum Kind {
-    Judged,
-    Listed,
-    Original,
-    House,
-}
 
 const MOST_RECORDS: u64 = 1000000;
 
 // The count of records that agree and of those that differ; and the index of the first that differs.
-fn say(rt: &impl Print, agree: u64, differ: u64, first: u64) {
+fn say(rt: &impl Print, agree: u64, differ: u64, first: Option<u64>) {
     let _ = println!(rt; "{agree} agree, {differ} differ");
-    if 0 < differ {
-        let _ = println!(rt; "the first that differs: {first}");
+    if let Some(index) = first {
+        let _ = println!(rt; "the first that differs: {index}");
     }
 }
 
-// The next record of a file.
-fn next_record(file: &mut impl Read, kind: Kind) -> Outcome {
-    match kind {
-        Kind::Judged => judged_record(file),
-        Kind::Listed => listed_record(file),
-        Kind::Original => original_record(file),
-        Kind::House => house_record(file),
-    }
-}
-
-// All records to the end of the file.
-fn all(rt: &impl Print, file: &mut impl Read, kind: Kind) {
-    let mut left = MOST_RECORDS;
+// All records to the end of a file, each read and compared by `next`. One that is not whole differs.
+fn all<R, F: FnMut(&mut R) -> Outcome>(rt: &impl Print, file: &mut R, mut next: F)
+    requires { F.IsAlwaysCallable next }
+{
     let mut agree: u64 = 0;
     let mut differ: u64 = 0;
-    let mut first: u64 = 0;
-    while 0 < left {
-        let outcome = next_record(file, kind);
-        match outcome {
-            Outcome::End => break,
-            Outcome::Agrees => agree += 1,
-            Outcome::Differs => {
-                if differ == 0 {
-                    first = agree;
-                }
+    let mut first = None;
+    for index in 0..MOST_RECORDS {
+        match next(file) {
+            Ok(None) => break,
+            Ok(Some(true)) => agree += 1,
+            Ok(Some(false)) | Err(NotWhole) => {
                 differ += 1;
+                first = first.or(Some(index));
             }
         }
-        left -= 1;
     }
     say(rt, agree, differ, first);
 }
 
 // All records of a file, by its name. One that cannot be opened is named on standard error.
-fn replay(rt: &(impl Files + Print + Eprint), path: &str, kind: Kind) {
+fn replay<R: Files + Print + Eprint, F: FnMut(&mut R::File) -> Outcome>(rt: &R, path: &str, next: F)
+    requires { F.IsAlwaysCallable next }
+{
     match fs::open(rt, path) {
-        Ok(mut file) => all(rt, &mut file, kind),
+        Ok(mut file) => all(rt, &mut file, next),
         Err(error) => {
             let _ = eprintln!(rt; "{path}: {error}");
         }
@@ -80,8 +59,8 @@ fn replay(rt: &(impl Files + Print + Eprint), path: &str, kind: Kind) {
 }
 
 fn main(rt: HostRuntime) {
-    replay(&rt, "judged", Kind::Judged);
-    replay(&rt, "listed", Kind::Listed);
-    replay(&rt, "original", Kind::Original);
-    replay(&rt, "house", Kind::House);
+    replay(&rt, "judged", judged_record);
+    replay(&rt, "listed", listed_record);
+    replay(&rt, "original", original_record);
+    replay(&rt, "house", house_record);
 }

@@ -1,6 +1,6 @@
 // Records of chunks with what the original lifter answers for them.
 use crate::listed::same_output;
-use crate::record::{Next, Outcome, next_number, outcome_of, read_part};
+use crate::record::{Outcome, next_number, read_first, read_part};
 use reading::Reading;
 use std::io::Read;
 
@@ -18,53 +18,25 @@ const MOST_CLASS: usize = 6;
 // does not tell. Where the two agree the original's answer is the output, and no listing is recorded; else the recorded listing is, and
 // the answer differs from it.
 fn as_recorded(s: &[u8], class: usize, answer: &[u8], listing: &[u8]) -> bool {
-    if MOST_CLASS < class {
-        return false;
-    }
-    if answer == listing {
+    if MOST_CLASS < class || answer == listing {
         return false;
     }
     if class != AGREED {
         return same_output(Reading::new(), s, listing, false);
     }
-    if 0 < listing.len() {
-        return false;
-    }
-    same_output(Reading::new(), s, answer, false)
+    listing.is_empty() && same_output(Reading::new(), s, answer, false)
 }
 
-// The next record: read, opened, delivered and compared. One that is not whole differs.
+// The next record: read, opened, delivered and compared.
 pub fn original_record(file: &mut impl Read) -> Outcome {
-    let first = next_number(file);
-    if let Next::End = first {
-        return Outcome::End;
-    }
-    let Next::Number(length) = first else {
-        return Outcome::Differs;
-    };
     let mut chunk = [0u8; MOST_CHUNK];
-    let n = read_part(file, &mut chunk, length);
-    if n != length {
-        return Outcome::Differs;
-    }
-    let Next::Number(class) = next_number(file) else {
-        return Outcome::Differs;
+    let Some(n) = read_first(file, &mut chunk)? else {
+        return Ok(None);
     };
-    let Next::Number(answered) = next_number(file) else {
-        return Outcome::Differs;
-    };
+    let class = next_number(file)?;
     let mut answer = [0u8; MOST_LINES];
-    let a = read_part(file, &mut answer, answered);
-    if a != answered {
-        return Outcome::Differs;
-    }
-    let Next::Number(listed) = next_number(file) else {
-        return Outcome::Differs;
-    };
+    let a = read_part(file, &mut answer)?;
     let mut listing = [0u8; MOST_LINES];
-    let m = read_part(file, &mut listing, listed);
-    if m != listed {
-        return Outcome::Differs;
-    }
-    outcome_of(as_recorded(&chunk[..n], class, &answer[..a], &listing[..m]))
+    let m = read_part(file, &mut listing)?;
+    Ok(Some(as_recorded(&chunk[..n], class, &answer[..a], &listing[..m])))
 }

@@ -1,26 +1,17 @@
-// What the kinds of records share: numbers of four bytes, parts of a given length, and a chunk.
-ghost use Rattle.std.specs.Prelude.{◌<◌, ◌^◌};
+// What the kinds of records share: numbers of four bytes, parts behind their length, and a chunk.
+ghost use Rattle.std.specs.Prelude.{◌<◌, ◌^◌, IfOk, IfSome};
 ghost use Rattle.input.specs.Prefix.{IsPrefixLen};
 
 use input::read_full;
 use lua51_value::bytes::int_at;
 use std::io::Read;
 
-// What comes of reading one record.
+// A record is not whole: the file ends inside it, or one of its parts is longer than is taken.
 #[derive(Clone, Copy)]
-pub enum Outcome {
-    Agrees,
-    Differs,
-    End,
-}
+pub struct NotWhole;
 
-// A number that was to be read from a file.
-#[derive(Clone, Copy)]
-pub enum Next {
-    Number(usize),
-    Cut, // the file ends inside it
-    End, // the file ends before it
-}
+// What comes of one record: whether it agrees, or none where the file ends before it.
+pub type Outcome = Result<Option<bool>, NotWhole>;
 
 // A chunk has at most one byte more than is taken.
 pub const MOST_LENGTH: usize = 65537;
@@ -34,33 +25,50 @@ pub fn number_at(s: &[u8], at: usize) -> usize
     int_at(s, at) as usize
 }
 
-// The number that stands next in the file.
-pub fn next_number(file: &mut impl Read) -> Next {
+// The number that begins a record, if there is one.
+fn first_number(file: &mut impl Read) -> Result<Option<usize>, NotWhole> {
     let mut number = [0u8; NUMBER_SIZE];
-    let got = read_full(file, &mut number);
-    if got == 0 {
-        return Next::End;
+    match read_full(file, &mut number) {
+        0 => Ok(None),
+        NUMBER_SIZE => Ok(Some(number_at(&number, 0))),
+        _ => Err(NotWhole),
     }
-    if got < NUMBER_SIZE {
-        return Next::Cut;
-    }
-    Next::Number(number_at(&number, 0))
 }
 
-// Reads the next `size` bytes of the file into `buf`, and answers how many it read: none where `buf` is too short.
-pub fn read_part(file: &mut impl Read, buf: &mut [u8], size: usize) -> usize
-    ensures { IsPrefixLen result buf.new }
+// The number that stands next in a record.
+pub fn next_number(file: &mut impl Read) -> Result<usize, NotWhole> {
+    first_number(file)?.ok_or(NotWhole)
+}
+
+// Reads the next `size` bytes of a record into `buf`, and gives how many they are.
+pub fn read_bytes(file: &mut impl Read, buf: &mut [u8], size: usize) -> Result<usize, NotWhole>
+    ensures { IfOk result (λ n. IsPrefixLen n buf.new) }
 {
     if buf.len() < size {
-        return 0;
+        return Err(NotWhole);
     }
-    read_full(file, &mut buf[..size])
+    let n = read_full(file, &mut buf[..size]);
+    if n < size {
+        return Err(NotWhole);
+    }
+    Ok(n)
 }
 
-// The outcome of a comparison.
-pub fn outcome_of(same: bool) -> Outcome {
-    if same {
-        return Outcome::Agrees;
-    }
-    Outcome::Differs
+// Reads the next part of a record, a length and that many bytes, into `buf`, and gives how many they are.
+pub fn read_part(file: &mut impl Read, buf: &mut [u8]) -> Result<usize, NotWhole>
+    ensures { IfOk result (λ n. IsPrefixLen n buf.new) }
+{
+    let size = next_number(file)?;
+    read_bytes(file, buf, size)
+}
+
+// Reads the part that begins a record, if there is one.
+pub fn read_first(file: &mut impl Read, buf: &mut [u8]) -> Result<Option<usize>, NotWhole>
+    ensures { IfOk result (λ first. IfSome first (λ n. IsPrefixLen n buf.new)) }
+{
+    let Some(size) = first_number(file)? else {
+        return Ok(None);
+    };
+    let n = read_bytes(file, buf, size)?;
+    Ok(Some(n))
 }

@@ -2,7 +2,7 @@
 // alters it directly. include/rigamel.h says the same in C's words.
 #![tactic(auto)]
 
-mod calls; // the calls by value, and their answers in numbers
+mod numbers; // readings and answers in numbers
 
 ghost use Rattle.std.specs.Prelude.{◌≡◌, List, ℕ};
 ghost use Rattle.lines.specs.Out.{output, puts};
@@ -10,9 +10,15 @@ ghost use Rattle.judging.specs.Refusal.{refusal_line};
 ghost use Rattle.reading.specs.Reading.{closed};
 ghost use Rattle.rigamel.specs.Numbers.{outcome, reading_numbers, opens, delivers, loads};
 
-use crate::calls::{answer_of, deliver_value, load_value, open_value, reading_of};
+use crate::numbers::reading_numbers;
 use house_table::{OPCODES, lua};
 use judging::refusal::{Numbers, put_refusal};
+use reading::deliver::deliver;
+use reading::load::load;
+use reading::open;
+
+// The number that an opening puts for open.
+const OPEN: u32 = 1;
 
 // A reading, which the caller keeps: whether it is open (0 closed, any other number open), the function whose listing comes next, and the
 // house table, of whatever numbers.
@@ -52,9 +58,9 @@ pub extern "C" fn rigamel_closed() -> Reading
 pub extern "C" fn rigamel_load(s: &[u8], reading: &mut Reading) -> Answer
     ensures { (out : List ℕ) → outcome result reading.new out ≡ loads reading.old s.now out }
 {
-    let loaded = load_value(*reading, s);
-    *reading = reading_of(loaded);
-    answer_of(loaded)
+    let loaded = load(reading::Reading::from(*reading), s);
+    *reading = reading_numbers(reading.opened, loaded.reading);
+    Answer::from(loaded.answer)
 }
 
 // Judges a chunk under the table of the reading that is lent, and opens the reading, or closes it where the chunk is refused, in both cases
@@ -63,9 +69,9 @@ pub extern "C" fn rigamel_load(s: &[u8], reading: &mut Reading) -> Answer
 pub extern "C" fn rigamel_open(s: &[u8], reading: &mut Reading) -> Answer
     ensures { (out : List ℕ) → outcome result reading.new out ≡ opens reading.old s.now out }
 {
-    let opened = open_value(*reading, s);
-    *reading = reading_of(opened);
-    answer_of(opened)
+    let opened = open(reading::Reading::from(*reading), s);
+    *reading = reading_numbers(OPEN, opened.reading);
+    Answer::from(opened.answer)
 }
 
 // Writes the listing of the next function of the reading that is lent, and moves the reading on.
@@ -73,9 +79,9 @@ pub extern "C" fn rigamel_open(s: &[u8], reading: &mut Reading) -> Answer
 pub extern "C" fn rigamel_deliver(s: &[u8], out: &mut [u8], reading: &mut Reading) -> Answer
     ensures { outcome result reading.new out.new ≡ delivers reading.old s.now out.old }
 {
-    let delivered = deliver_value(s, out, *reading);
-    *reading = reading_of(delivered);
-    answer_of(delivered)
+    let delivered = deliver(reading::Reading::from(*reading), s, out);
+    *reading = reading_numbers(reading.opened, delivered.reading);
+    Answer::from(delivered.answer)
 }
 
 // Prints the X line of a refusal from the output's start, as far as the output goes, and gives the length of the whole line.

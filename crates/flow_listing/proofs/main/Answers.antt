@@ -3,7 +3,7 @@ use mathlib.Core.Path.{refl}
 use Rattle.flow_listing.proofs.Pieces.{reached_none}
 use Rattle.flow_listing.proofs.main.Goals as goal
 
-pub loop-s-init : goal.loop-s-init
-loop-s-init c =
+pub loop-k-init : goal.loop-k-init
+loop-k-init c =
     let judged = c.walk_and_judge-judged.ensures in
-    (reached_none _ _ _ c.lua.ensures judged.0 judged.1, refl, refl)
+    rw c.into_iter-k-iterator.ensures.into_iter_gives (reached_none _ _ _ _ c.lua.ensures judged.answer judged.places, refl, refl)

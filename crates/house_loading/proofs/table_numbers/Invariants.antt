@@ -1,5 +1,5 @@
 -- `table_numbers` meets its contract. The loop's invariant: the lines before line i are read. Assumes nothing.
-use Prim.Native.Nat.{ℕ, ◌-◌, ◌<◌, ◌≤◌}
+use Prim.Native.Nat.{ℕ, ◌<◌}
 use mathlib.Core.Path.{◌≡◌}
 use lib.ListN.{length, get_or}
 use Rattle.house_table.specs.House.{opcode_count}
@@ -9,8 +9,5 @@ use Rattle.house_loading.proofs.table_numbers.Given as goal
 
 abbrev pub invariant-loop-i : goal.invariant-loop-i
 invariant-loop-i l =
-    (l.i ≤ opcode_count) × (length l.numbers ≡ opcode_count)
-    × ((k : ℕ) → k < l.i → get_or l.numbers k 0 ≡ in_byte (number_said (table_line l.s k)))
-
-abbrev pub decreases-loop-i : goal.decreases-loop-i
-decreases-loop-i l = opcode_count - l.i
+    (length l.number-items ≡ opcode_count)
+    × ((k : ℕ) → k < l.i → get_or l.number-items k 0 ≡ in_byte (number_said (table_line l.s k)))

@@ -11,7 +11,7 @@ use Rattle.house_table.proofs.inverse_of.Goals as goal
 
 pub loop-i-init : goal.loop-i-init
 unfolding over
-loop-i-init c = (omega arith, sym (found_none c.args.table (search rules)))
+loop-i-init c = sym (found_none c.args.table (search rules))
 
 pub loop-i-preserved-then-number-lt-OPCODES : goal.loop-i-preserved-then-number-lt-OPCODES
 loop-i-preserved-then-number-lt-OPCODES c =
@@ -19,9 +19,9 @@ loop-i-preserved-then-number-lt-OPCODES c =
     let table = c.args.table in
     let i = l.i - 1 in
     let more : i + 1 ≡ l.i = omega arith in
-    let number : c.wide-number.result ≡ get_or table i 0 = c.wide-number.ensures.0 in
+    let number : c.from-number.result ≡ get_or table i 0 = c.from-number.ensures in
     let long : length table ≡ opcode_count = search rules in
-    (omega arith, rw number (found_more table i (omega arith) l.inverse (rw more l.invariant.1) (omega arith)))
+    rw number (found_more table i (omega arith) l.inverse (rw more l.invariant) (omega arith))
 
 pub loop-i-preserved : goal.loop-i-preserved
 loop-i-preserved c =
@@ -29,12 +29,12 @@ loop-i-preserved c =
     let table = c.args.table in
     let i = l.i - 1 in
     let more : i + 1 ≡ l.i = omega arith in
-    let number : c.wide-number.result ≡ get_or table i 0 = c.wide-number.ensures.0 in
+    let number : c.from-number.result ≡ get_or table i 0 = c.from-number.ensures in
     let long : length table ≡ opcode_count = search rules in
-    (omega arith, found_past table i (omega arith) l.inverse (rw more l.invariant.1) (omega arith))
+    found_past table i (omega arith) l.inverse (rw more l.invariant) (omega arith)
 
 pub returns : goal.returns
 returns c =
     let l = c.loop-i in
     let z : l.i ≡ 0 = omega arith in
-    l.invariant.1 ∙ rw z (found_all c.args.table)
+    l.invariant ∙ rw z (found_all c.args.table)

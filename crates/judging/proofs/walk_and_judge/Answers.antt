@@ -1,20 +1,27 @@
 -- `walk_and_judge`: a chunk that was not read whole is refused where its reading ended; the others by their functions, whose words
 -- are put back by the inverse of the table. Assumes nothing.
-use mathlib.Core.Path.{◌≡◌, ◌∙◌}
+use mathlib.Core.Path.{◌≡◌, ap, ◌∙◌}
 use lib.ListN.{length}
 use Rattle.house_table.specs.House.{opcode_count}
-use Rattle.judging.proofs.Judging.{judge_refused, places_of_lem, judged_by}
+use Rattle.lua51_deserializer.specs.Chunk.{Walk}
+use Rattle.judging.proofs.Judging.{judge_refused, judged_by}
 use Rattle.std.proofs.Common.{rules}
+use Rattle.std.proofs.lemmas.Result.{err_from_is_err_and}
 use Rattle.judging.proofs.walk_and_judge.Goals as goal
 
-pub returns-in-Refused : goal.returns-in-Refused
-returns-in-Refused c =
-    let w = c.walk-walked in
-    (judge_refused _ w.result w.ensures _ _ c.in-Refused.is, places_of_lem _ w.result w.ensures)
+pub returns-in_err-_end : goal.returns-in_err-_end
+returns-in_err-_end c =
+    let p = err_from_is_err_and c.from_residual.result c.from_residual.ensures.1 in
+    rw (p.1, p.2) (record {
+      answer = judge_refused _ _ _ _ c.in_err-_end.ensures;
+      places = ap (λ (w : Walk). w.places) c.in_err-_end.ensures;
+    })
 
 pub returns : goal.returns
 returns c =
-    let w = c.walk-walked in
     -- the table has a number for each opcode
     let long : length c.args.table ≡ opcode_count = search rules in
-    (c.judge_functions.ensures ∙ judged_by _ _ _ c.inverse_of-inverse.ensures long, places_of_lem _ w.result w.ensures)
+    record {
+      answer = c.judge_functions.ensures ∙ judged_by _ _ _ c.inverse_of.ensures long;
+      places = ap (λ (w : Walk). w.places) c.in_ok-_end.ensures;
+    }

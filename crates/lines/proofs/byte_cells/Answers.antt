@@ -9,6 +9,6 @@ use Rattle.lines.proofs.byte_cells.Goals as goal
 
 pub returns : goal.returns
 returns c =
-    let n = c.args.b in
-    (λ i. blank ∷ blank ∷ blank ∷ blank ∷ c.cell_of.ensures i ∷ c.cell_of-2.ensures i ∷ digit (n % 10) ∷ [])
-    ∙ column_byte n _ _ (omega arith) refl refl
+    let n = c.from-n.result in
+    rw (← c.from-n.ensures) ((λ i. blank ∷ blank ∷ blank ∷ blank ∷ c.cell_of.ensures i ∷ c.cell_of-2.ensures i ∷ digit (n % 10) ∷ [])
+    ∙ column_byte n _ _ (omega arith) refl refl)

@@ -1,7 +1,9 @@
 -- `get_table` meets its contract. Assumes nothing.
-use Rattle.ast.specs.Statement.{run, count, exprs, expr}
+use Rattle.ast.specs.Statement.{expr}
+use Rattle.ast.proofs.Written.{then}
+use Rattle.lua51_runs.proofs.Assigned.{set_numbers}
 use Rattle.lua51_assignments.proofs.get_table.Goals as goal
 
 pub returns : goal.returns
-unfolding run count exprs expr
-returns c = rw c.operand-key.ensures c.set_register.ensures
+unfolding expr
+returns c = rw set_numbers (then c.set_register.ensures c.push_operand.ensures)

@@ -3,8 +3,8 @@
 use Prim.Native.Nat.{◌-◌, ◌≤◌}
 use mathlib.Core.List.{List}
 use mathlib.Core.Path.{◌≡◌}
-use lib.ListN.{length, drop}
-use Rattle.lines.specs.Out.{output, puts}
+use lib.ListN.{drop}
+use Rattle.lines.proofs.Puts.{Remains}
 use Rattle.lua51_value.specs.Value.{Value}
 use Rattle.lua51_function.specs.Function.{places_from}
 use Rattle.lua51_lifter.specs.Listing.{constant_lines}
@@ -13,14 +13,10 @@ use Rattle.lua51_constants.proofs.put_constant_lines.Given as goal
 
 abbrev pub invariant-loop-i : goal.invariant-loop-i
 invariant-loop-i l =
-    let places = places_from l.s l.first l.count in
-    let start = output l.initial.out l.at in
-    let now = output l.out l.next in
-    (l.i ≤ l.count) × (length l.out ≡ length l.initial.out)
-    × (drop l.i places ≡ places_from l.s l.place (l.count - l.i))
-    × (puts start (place_lines l.s 0 places) ≡ puts now (place_lines l.s l.i (drop l.i places)))
-    × ((vs : List Value) → AreRead l.s places vs
-    → puts start (constant_lines 0 vs) ≡ puts now (constant_lines l.i (drop l.i vs)))
-
-abbrev pub decreases-loop-i : goal.decreases-loop-i
-decreases-loop-i l = l.count - l.i
+    let places = places_from l.s l.first l.count in record {
+      few : l.i ≤ l.count;
+      next : drop l.i places ≡ places_from l.s l.place (l.count - l.i);
+      answer : Remains l.initial.out l.out (place_lines l.s 0 places) (place_lines l.s l.i (drop l.i places));
+      meaning : (vs : List Value) → AreRead l.s places vs
+          → Remains l.initial.out l.out (constant_lines 0 vs) (constant_lines l.i (drop l.i vs));
+    }

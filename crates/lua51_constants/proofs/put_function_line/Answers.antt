@@ -4,4 +4,4 @@ use Rattle.lua51_constants.proofs.put_function_line.Goals as goal
 
 pub returns : goal.returns
 unfolding function_line
-returns c = rw (← c.wide.ensures.0, ← c.wide-2.ensures.0, ← c.wide-3.ensures.0) c.put_line.ensures
+returns c = rw (← c.from.ensures, ← c.from-2.ensures, ← c.from-3.ensures) c.put_line.ensures

@@ -6,4 +6,6 @@ use Rattle.lua51_constants.proofs.put_pattern.Goals as goal
 
 pub returns : goal.returns
 unfolding numbers_of kind_of value
-returns c = rw c.pieces_of-pieces.ensures at c.put_numbers.ensures
+returns c =
+    rw (c.from.ensures, c.from-2.ensures, c.from-3.ensures, c.from-4.ensures, c.from-5.ensures, c.pieces_of-pieces.ensures)
+    at c.put_numbers.ensures

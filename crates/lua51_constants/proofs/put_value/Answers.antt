@@ -1,22 +1,19 @@
 -- `put_value`: one printer for each kind of constant. Assumes nothing.
 use mathlib.Core.Path.{ap, ◌∙◌}
-use Rattle.lines.specs.Out.{output}
 use Rattle.lua51_value.specs.Constant.{pattern_of, value_of}
-use Rattle.lua51_constants.specs.Constants.{size_of}
-use Rattle.lua51_constants.proofs.ConstantLines.{puts_nil}
+use Rattle.lua51_value.specs.Value.{kind_of}
+use Rattle.lua51_lifter.specs.Listing.{value}
+use Rattle.lua51_constants.specs.Constants.{numbers_of}
+use Rattle.lua51_constants.proofs.ConstantLines.{puts_nil, bit_of}
 use Rattle.lua51_constants.proofs.put_value.Goals as goal
-
-pub put_text-requires : goal.put_text-requires
-unfolding size_of
-put_text-requires c = rw c.in-String.is at c.requires
 
 pub returns-in-Nil : goal.returns-in-Nil
 unfolding value_of
-returns-in-Nil c = rw (c.in-Nil.is, puts_nil (output c.args.out.now c.args.at)) c.put_number.ensures
+returns-in-Nil c = rw c.in-Nil.is (puts_nil c.put_number.ensures)
 
 pub returns-in-Boolean : goal.returns-in-Boolean
-unfolding value_of
-returns-in-Boolean c = rw c.in-Boolean.is c.put_boolean.ensures
+unfolding value_of numbers_of kind_of value
+returns-in-Boolean c = rw c.in-Boolean.is (rw (c.from.ensures, bit_of c.in-Boolean.b) at c.put_numbers.ensures)
 
 pub returns-in-Number : goal.returns-in-Number
 unfolding value_of pattern_of

@@ -7,14 +7,14 @@ use Rattle.lua51_lister.proofs.Pending.{pending_next}
 use Rattle.lua51_lister.proofs.pending_behind.Goals as goal
 
 pub returns-then-pending-gt0 : goal.returns-then-pending-gt0
-returns-then-pending-gt0 c p ws us e = rw (pending_next p c.args.i, ← e, lt-ltb 0 c.args.pending c.if-pending-gt0.true)
+returns-then-pending-gt0 c p ks st e = rw (pending_next p c.args.i, ← e, lt-ltb 0 c.args.pending c.if-pending-gt0.true)
 
 pub returns-then-opcode_of-eq-CLOSURE : goal.returns-then-opcode_of-eq-CLOSURE
-returns-then-opcode_of-eq-CLOSURE c p ws us e =
+returns-then-opcode_of-eq-CLOSURE c p ks st e =
     let a = c.args in
-    let is : word p a.i ≡ c.word_at-word.result = rw ws (sym c.word_at-word.ensures) in
+    let is : word p a.i ≡ c.at_or-word.result = rw st.words (sym c.at_or-word.ensures) in
     let closes : opcode p a.i ≡ number_of CLOSURE = rw is (sym c.opcode_of.ensures ∙ c.if-opcode_of-eq-CLOSURE.true) in
-    let many : c.byte_at.result ≡ captures_of p a.i = rw (us, is, ← c.bx_of.ensures) c.byte_at.ensures in
+    let many : c.at_or.result ≡ captures_of p a.i = rw (st.nups, is, ← c.bx_of.ensures) c.at_or.ensures in
     rw (
       pending_next p a.i,
       ← e,
@@ -24,9 +24,9 @@ returns-then-opcode_of-eq-CLOSURE c p ws us e =
     many
 
 pub returns : goal.returns
-returns c p ws us e =
+returns c p ks st e =
     let a = c.args in
-    let is : word p a.i ≡ c.word_at-word.result = rw ws (sym c.word_at-word.ensures) in
+    let is : word p a.i ≡ c.at_or-word.result = rw st.words (sym c.at_or-word.ensures) in
     let not : opcode p a.i ≡ number_of CLOSURE → ⊥ = λ o. c.if-opcode_of-eq-CLOSURE.false (c.opcode_of.ensures ∙ rw is at o) in
     rw (
       pending_next p a.i,

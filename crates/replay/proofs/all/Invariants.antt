@@ -1,10 +1,7 @@
--- `all` is safe and ends: the records left fall with each turn, and with those counted they never exceed the most.
--- Assumes nothing.
-use Prim.Native.Nat.{◌+◌, ◌≤◌}
+-- `all`: the records that are counted are those that were read. Assumes nothing.
+use mathlib.Core.Path.{◌≡◌}
+use Prim.Native.Nat.{◌+◌}
 use Rattle.replay.proofs.all.Given as goal
 
-abbrev pub invariant-loop-left : goal.invariant-loop-left
-invariant-loop-left g l = (l.left + l.agree + l.differ ≤ 1000000)
-
-abbrev pub decreases-loop-left : goal.decreases-loop-left
-decreases-loop-left g l = l.left
+abbrev pub invariant-loop-index : goal.invariant-loop-index
+invariant-loop-index g l = (l.agree + l.differ ≡ l.index) × goal.F-IsAlwaysCallable g l.next

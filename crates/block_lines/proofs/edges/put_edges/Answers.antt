@@ -1,7 +1,7 @@
 -- `put_edges`: none, one or two. Assumes nothing.
-use mathlib.Core.Path.{◌≡◌, ◌∙◌, sym, ap}
+use mathlib.Core.Path.{◌≡◌, ◌∙◌, ap}
 use mathlib.Core.List.{[], ◌∷◌}
-use Rattle.lines.proofs.Puts.{puts_none, puts_append, prints_none, prints_then}
+use Rattle.lines.proofs.Puts.{puts_nothing, puts_then, prints_nothing, prints_further}
 use Rattle.lua51_instruction.specs.Proto.{flow_at}
 use Rattle.basics.specs.Range.{only}
 use Rattle.cfg.specs.Graph.{leaving}
@@ -15,11 +15,11 @@ returns-in-None-clause-result_after c =
     let r = c.edges_at in
     λ p ok lt next.
     let none : leaving p a.i (flow_at p a.i) ≡ [] =
-    edges_are p a.i r.result lt (r.ensures p ok.words) ∙ ap edges_meant c.in-None.is in
-    rw (no_edge p a.i none) (sym (puts_none _))
+    edges_are p a.i (edges_meant r.result) lt (r.ensures p ok.words) ∙ ap edges_meant c.in-None.is in
+    rw (no_edge p a.i none) (puts_nothing a.out.now)
 
 pub returns-in-None-clause-anyway : goal.returns-in-None-clause-anyway
-returns-in-None-clause-anyway c = prints_none _
+returns-in-None-clause-anyway c = prints_nothing c.args.out.now
 
 pub returns-in-One-clause-result_after : goal.returns-in-One-clause-result_after
 returns-in-One-clause-result_after c =
@@ -28,7 +28,7 @@ returns-in-One-clause-result_after c =
     let e = edge_meant c.in-One.e in
     λ p ok lt next.
     let one : leaving p a.i (flow_at p a.i) ≡ only e =
-    edges_are p a.i r.result lt (r.ensures p ok.words) ∙ ap edges_meant c.in-One.is in
+    edges_are p a.i (edges_meant r.result) lt (r.ensures p ok.words) ∙ ap edges_meant c.in-One.is in
     let to : Land p (only e) = rw one at (leaving_land p ok.fine a.i lt next) in
     rw (one_edge p a.i e one) (c.put_edge.ensures.result_after p ok.notes lt to.0.inside to.0.leads)
 
@@ -40,10 +40,12 @@ returns-in-Two-clause-result_after c =
     let f = edge_meant c.in-Two.f in
     λ p ok lt next.
     let two : leaving p a.i (flow_at p a.i) ≡ e ∷ f ∷ [] =
-    edges_are p a.i r.result lt (r.ensures p ok.words) ∙ ap edges_meant c.in-Two.is in
+    edges_are p a.i (edges_meant r.result) lt (r.ensures p ok.words) ∙ ap edges_meant c.in-Two.is in
     let to : Land p (e ∷ f ∷ []) = rw two at (leaving_land p ok.fine a.i lt next) in
-    rw (two_edges p a.i e f two, puts_append, ← (c.put_edge-next.ensures.result_after p ok.notes lt to.0.inside to.0.leads))
-    (c.put_edge-in-Two.ensures.result_after p ok.notes lt to.1.0.inside to.1.0.leads)
+    rw (two_edges p a.i e f two)
+    (puts_then
+    (c.put_edge-in-Two.ensures.result_after p ok.notes lt to.0.inside to.0.leads)
+    (c.put_edge-in-Two-2.ensures.result_after p ok.notes lt to.1.0.inside to.1.0.leads))
 
 pub returns-in-Two-clause-anyway : goal.returns-in-Two-clause-anyway
-returns-in-Two-clause-anyway c = prints_then c.put_edge-next.ensures.anyway c.put_edge-in-Two.ensures.anyway
+returns-in-Two-clause-anyway c = prints_further c.put_edge-in-Two.ensures.anyway c.put_edge-in-Two-2.ensures.anyway

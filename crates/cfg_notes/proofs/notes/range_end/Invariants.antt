@@ -1,5 +1,5 @@
 -- `notes::range_end`: the first leader from the place reached is the first behind j. Assumes nothing.
-use Prim.Native.Nat.{◌+◌, ◌≤◌, ◌-◌}
+use Prim.Native.Nat.{◌+◌, ◌-◌}
 use mathlib.Core.Path.{◌≡◌}
 use Rattle.lua51_instruction.specs.Proto.{Proto}
 use Rattle.cfg.specs.Graph.{leader_from}
@@ -8,8 +8,4 @@ use Rattle.cfg_notes.proofs.notes.range_end.Given as goal
 
 abbrev pub invariant-loop-end : goal.invariant-loop-end
 invariant-loop-end l =
-    (l.j + 1 ≤ l.end) × (l.end ≤ l.past)
-    × ((p : Proto) → l.notes ≡ notes_of p → leader_from p (l.past - l.end) l.end ≡ leader_from p (l.past - (l.j + 1)) (l.j + 1))
-
-abbrev pub decreases-loop-end : goal.decreases-loop-end
-decreases-loop-end l = l.past - l.end
+    (p : Proto) → l.notes ≡ notes_of p → leader_from p (l.past - l.end) l.end ≡ leader_from p (l.past - (l.j + 1)) (l.j + 1)

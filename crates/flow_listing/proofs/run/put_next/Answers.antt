@@ -1,6 +1,6 @@
 -- `run::put_next`: the listing, or 33, by its length. Assumes nothing.
 use Prim.Native.Nat.{◌≤◌, ◌<◌}
-use mathlib.Core.Path.{sym}
+use mathlib.Core.Path.{refl, sym}
 use native.Mathlib.Omega.{arith}
 use lib.ListN.{length}
 use borrow.Author.Tests.{lt-ltb, le-ltb}
@@ -19,9 +19,9 @@ returns-then-length-gt-PROGRAM_BUFFER c =
     let e = listed _ _ _ c.requires.listable _ c.lua.ensures c.put_function-length.ensures runs in
     let count = put_count c.args.out.now _ bytes _ e few in
     let long : buffer < length bytes = omega (arith, count, c.if-length-gt-PROGRAM_BUFFER.true) in
-    let w = c.put_last.ensures in
+    let w = c.put_line.ensures in
     let is = lt-ltb buffer (length bytes) long in
-    rw is (record { out_after = w.out_after; prefix_len = w.prefix_len; last_value = w.last_value })
+    rw is (record { out_after = w.out_after; prefix_len = w.prefix_len; last_value = refl })
 
 pub returns : goal.returns
 returns c =

@@ -2,17 +2,30 @@
 -- Assumes nothing.
 use mathlib.Core.Path.{◌∙◌, sym}
 use native.Mathlib.Omega.{arith}
-use Rattle.lines.proofs.ReadBack.{line_cut, line_other, line_columns}
+use Rattle.lines.proofs.ReadBack.{line_cut, line_from, line_unended, line_columns}
 use Rattle.lines.proofs.numeral.number_at.Goals as goal
 
-pub returns-then-s-lt-LINE_LENGTH : goal.returns-then-s-lt-LINE_LENGTH
-returns-then-s-lt-LINE_LENGTH c = sym (line_cut c.args.s.now c.args.at (omega (arith, c.if-s-lt-LINE_LENGTH.true)))
+pub returns-in_err-get : goal.returns-in_err-get
+returns-in_err-get c =
+    let past = c.in_err-get.ensures.lookup in
+    rw c.from_residual.ensures (sym (line_cut c.args.s.now c.args.at (omega (arith, past))))
 
-pub returns-then-s-at : goal.returns-then-s-at
-returns-then-s-at c = sym (line_cut c.args.s.now c.args.at (omega (arith, c.if-s-lt-LINE_LENGTH.false, c.if-s-at.true)))
+pub returns-in_err-line : goal.returns-in_err-line
+returns-in_err-line c =
+    let rest = c.in_ok-get.ensures.lookup in
+    let short = c.in_err-line.ensures.lookup in
+    rw c.from_residual-in_err-line.ensures (sym (line_cut c.args.s.now c.args.at (omega (arith, rest, short))))
 
-pub returns-then-s-end-ne-LINE_FEED : goal.returns-then-s-end-ne-LINE_FEED
-returns-then-s-end-ne-LINE_FEED c = sym (line_other c.args.s.now c.args.at c.if-s-end-ne-LINE_FEED.true)
+pub returns-then-line-ne-LINE_FEED : goal.returns-then-line-ne-LINE_FEED
+returns-then-line-ne-LINE_FEED c =
+    let rest = c.in_ok-get.ensures.lookup in
+    let line = c.in_ok-line.ensures.lookup in
+    let is = line_from c.args.s.now _ c.in_ok-line.line.now c.args.at rest.0.2 line.0.2 in
+    sym (line_unended c.args.s.now c.args.at c.in_ok-line.line.now is c.if-line-ne-LINE_FEED.true)
 
 pub returns : goal.returns
-returns c = c.column_says.ensures ∙ line_columns c.args.s.now c.args.at c.if-s-end-ne-LINE_FEED.false
+returns c =
+    let rest = c.in_ok-get.ensures.lookup in
+    let line = c.in_ok-line.ensures.lookup in
+    let is = line_from c.args.s.now _ c.in_ok-line.line.now c.args.at rest.0.2 line.0.2 in
+    c.column_says.ensures ∙ line_columns c.args.s.now c.args.at c.in_ok-line.line.now is c.if-line-ne-LINE_FEED.false

@@ -1,26 +1,25 @@
 -- `put_range`: a block where a range starts. Assumes nothing.
-use mathlib.Core.Path.{sym}
-use Rattle.lines.proofs.Puts.{puts_none, prints_none}
-use Rattle.cfg_notes.proofs.Parts.{starts_block, starts_none}
+use mathlib.Core.Path.{sym, ◌∙◌}
+use Rattle.lines.proofs.Puts.{puts_nothing, prints_nothing}
 use Rattle.block_lines.specs.Lines.{code_lines}
+use Rattle.listing.proofs.BlockLines.{start_read}
 use Rattle.listing.proofs.blocks.put_range.Goals as goal
 
-pub returns-then-start_at-eq0-clause-result_after : goal.returns-then-start_at-eq0-clause-result_after
+pub returns-then-is_some-clause-result_after : goal.returns-then-is_some-clause-result_after
 unfolding code_lines
-returns-then-start_at-eq0-clause-result_after c =
+returns-then-is_some-clause-result_after c =
     let a = c.args in
-    let s = c.start_at in
-    λ p held roomy notes le.
-    rw (starts_none p a.notes.now notes a.j s.result s.ensures le c.if-start_at-eq0.true) (sym (puts_none _))
+    λ p draws roomy le.
+    let leads = sym (start_read p a.drawn.now.notes.now draws.notes a.j le c.start_at.ensures) ∙ sym c.is_some.ensures ∙ c.if-is_some.true in
+    rw leads (c.put_code_block.ensures.result_after p draws roomy le leads)
 
-pub returns-then-start_at-eq0-clause-anyway : goal.returns-then-start_at-eq0-clause-anyway
-returns-then-start_at-eq0-clause-anyway c = prints_none _
-
-pub returns-clause-result_after : goal.returns-clause-result_after
+pub returns-else-is_some-clause-result_after : goal.returns-else-is_some-clause-result_after
 unfolding code_lines
-returns-clause-result_after c =
+returns-else-is_some-clause-result_after c =
     let a = c.args in
-    let s = c.start_at in
-    λ p held roomy notes le.
-    let leads = starts_block p a.notes.now notes a.j s.result s.ensures le c.if-start_at-eq0.false in
-    rw leads (c.put_code_block.ensures.result_after p held roomy notes le leads)
+    λ p draws roomy le.
+    let none = sym (start_read p a.drawn.now.notes.now draws.notes a.j le c.start_at.ensures) ∙ sym c.is_some.ensures ∙ c.if-is_some.false in
+    rw none (puts_nothing a.out.now)
+
+pub returns-else-is_some-clause-anyway : goal.returns-else-is_some-clause-anyway
+returns-else-is_some-clause-anyway c = prints_nothing c.args.out.now

@@ -1,6 +1,6 @@
 -- `put_function`: in short or long room, by the inverse of the table. Assumes nothing.
 -- the table has a number for each opcode
-use Rattle.listing.proofs.Loading.{lists_by}
+use Rattle.listing.proofs.Loading.{lists_by, words_most}
 use mathlib.Core.Path.{◌≡◌}
 use lib.ListN.{length}
 use Rattle.house_table.specs.House.{opcode_count}
@@ -11,9 +11,14 @@ pub returns-then-word_count-le-FEW_WORDS : goal.returns-then-word_count-le-FEW_W
 returns-then-word_count-le-FEW_WORDS c =
     -- the table has a number for each opcode
     let long : length c.args.table ≡ opcode_count = search rules in
-    lists_by _ _ c.inverse_of-inverse.ensures long c.put_short.ensures
+    lists_by _ _ c.inverse_of-inverse.ensures long c.put_with.ensures
 
 pub returns : goal.returns
 returns c =
     let long : length c.args.table ≡ opcode_count = search rules in
-    lists_by _ _ c.inverse_of-inverse.ensures long c.put_long.ensures
+    lists_by _ _ c.inverse_of-inverse.ensures long c.put_with-2.ensures
+
+pub put_with-requires-2-clause-words : goal.put_with-requires-2-clause-words
+put_with-requires-2-clause-words c =
+    let a = c.args in
+    λ end walked below. words_most a.s.now a.functions a.f end walked below

@@ -19,5 +19,5 @@ returns-clause-by_index c =
     let h = holds_function a.functions end walked below loads (room _ _ _ _ walked below _ _ _ few (search rules) (search rules)) in
     -- the notes of the words that were loaded have room
     let fits : 3 * (c.function_at-loaded.result.words + 1) ≤ length a.notes.now = omega (arith, loads.words.count, c.requires) in
-    c.put_listing.ensures.result_after _ _ (held h ok) runs
+    c.put_listing.ensures.result_after _ _ (held h ok _ h.stands) runs
     (length-take-le _ _ fits ∙ rw (reworded_size _ _, h.words)) (held_constants h)

@@ -9,13 +9,16 @@ use Rattle.listing.proofs.function.put_whole.Goals as goal
 
 pub returns-then-out-length-clause-result_after : goal.returns-then-out-length-clause-result_after
 returns-then-out-length-clause-result_after c =
-    let k = c.put_loaded-length in
-    λ p vs held roomy notes read. whole_short _ _ _ _ (k.ensures.result_after p vs held roomy notes read) c.if-out-length.true
+    λ p vs draws roomy read.
+    whole_short _ c.args.out.now c.new-counted.ensures.at_start (c.put_loaded.ensures.result_after p vs draws roomy read) c.if-out-length.true
 
 pub returns-clause-result_after : goal.returns-clause-result_after
 returns-clause-result_after c =
-    let k = c.put_loaded-length in
-    let few : length c.args.out.now < largest_usize = omega arith in
-    λ p vs held roomy notes read.
-    whole_fits _ _ _ _ (k.ensures.result_after p vs held roomy notes read) _ _ c.if-out-length.false few
-    (c.put_loaded.ensures.result_after p vs held (search rules) notes read)
+    let out = c.args.out.now in
+    let few : length out < largest_usize = omega arith in
+    λ p vs draws roomy read.
+    let stored = c.put_loaded-2.ensures.result_after p vs draws (search rules) read in
+    let whole =
+    whole_fits _ out c.new-counted.ensures.at_start (c.put_loaded.ensures.result_after p vs draws roomy read) c.if-out-length.false few
+    c.new-stored.ensures.at_start stored in
+    search (rules, whole, stored.same)

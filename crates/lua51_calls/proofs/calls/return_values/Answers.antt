@@ -2,11 +2,11 @@
 use mathlib.Core.Path.{◌≡◌, sym}
 use Rattle.lua51_instruction.specs.Proto.{word}
 use Rattle.ast.specs.Statement.{run}
-use Rattle.ast.proofs.Adds.{adds_then}
+use Rattle.ast.proofs.Written.{then}
 use Rattle.lua51_calls.proofs.calls.return_values.Goals as goal
 
 pub returns : goal.returns
 unfolding run
 returns c p st =
-    let is : word p c.args.i ≡ c.word_at.result = rw st (sym c.word_at.ensures) in
-    rw (is, ← c.a_of-a.ensures) (adds_then _ _ _ c.push_all-used.ensures (c.push_taken.ensures p st))
+    let is : word p c.args.i ≡ c.at_or.result = rw st (sym c.at_or.ensures) in
+    rw (is, ← c.a_of-a.ensures) (then c.push.ensures (c.push_taken.ensures p st))

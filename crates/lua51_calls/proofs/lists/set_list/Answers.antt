@@ -3,7 +3,7 @@ use mathlib.Core.Path.{◌≡◌, sym}
 use Rattle.std.proofs.Common.{◌-◌, arith, eq-eqb, ne_eqb}
 use Rattle.lua51_instruction.specs.Proto.{word}
 use Rattle.ast.specs.Statement.{tail_numbers, no_tail, open_tail}
-use Rattle.ast.proofs.Adds.{adds_then}
+use Rattle.ast.proofs.Written.{then}
 use Rattle.lua51_lifter.specs.Lift.{statements_by, open_results}
 use Rattle.lua51_runs.proofs.Assigned.{list_numbers}
 use Rattle.lua51_calls.proofs.lists.set_list.Goals as goal
@@ -11,7 +11,7 @@ use Rattle.lua51_calls.proofs.lists.set_list.Goals as goal
 pub returns-then-b-gt0 : goal.returns-then-b-gt0
 unfolding statements_by tail_numbers
 returns-then-b-gt0 c p st =
-    let is : word p c.args.i ≡ c.word_at-word.result = rw st (sym c.word_at-word.ensures) in
+    let is : word p c.args.i ≡ c.at_or-word.result = rw st (sym c.at_or-word.ensures) in
     rw (
       is,
       ← c.a_of-a.ensures,
@@ -20,14 +20,14 @@ returns-then-b-gt0 c p st =
       ne_eqb c.b_of-b.result 0 (λ e. omega (arith, c.if-b-gt0.true)),
       list_numbers c.a_of-a.result c.c_of-c.result c.b_of-b.result no_tail,
     )
-    (adds_then _ _ _ c.push_list-used.ensures c.push_all.ensures)
+    (then c.push_list.ensures c.push.ensures)
 
 pub returns : goal.returns
 unfolding statements_by tail_numbers
 returns c p st =
     let i = c.args.i in
-    let is : word p i ≡ c.word_at-word.result = rw st (sym c.word_at-word.ensures) in
-    let was : word p (i - 1) ≡ c.word_at.result = rw (st, ← c.before-j.ensures) (sym c.word_at.ensures) in
+    let is : word p i ≡ c.at_or-word.result = rw st (sym c.at_or-word.ensures) in
+    let was : word p (i - 1) ≡ c.at_or.result = rw (st, ← c.saturating_sub-j.ensures) (sym c.at_or.ensures) in
     rw (
       was,
       is,
@@ -35,10 +35,10 @@ returns c p st =
       ← c.b_of-b.ensures,
       ← c.c_of-c.ensures,
       ← c.a_of-opener.ensures,
-      ← c.minus.ensures,
-      ← c.before-j.ensures,
+      ← c.saturating_sub.ensures,
+      ← c.saturating_sub-j.ensures,
       eq-eqb c.b_of-b.result 0 (omega (arith, c.if-b-gt0.false)),
-      list_numbers c.a_of-a.result c.c_of-c.result c.minus.result (open_tail (open_results p c.before-j.result)),
+      list_numbers c.a_of-a.result c.c_of-c.result c.saturating_sub.result (open_tail (open_results p c.saturating_sub-j.result)),
     )
-    (adds_then _ _ _ c.push_list-used-2.ensures
-    (adds_then _ _ _ c.push_all-next.ensures (c.push_open_results.ensures p st)))
+    (then c.push_list-2.ensures
+    (then c.push-2.ensures (c.push_open_results.ensures p st)))

@@ -8,7 +8,7 @@ use Rattle.lua51_calls.proofs.results.push_alone.Goals as goal
 pub returns-then-opcode_of-eq-VARARG : goal.returns-then-opcode_of-eq-VARARG
 unfolding results_alone expr
 returns-then-opcode_of-eq-VARARG c =
-    rw (eq-eqb _ _ (sym c.opcode_of.ensures ∙ c.if-opcode_of-eq-VARARG.true)) c.push_all.ensures
+    rw (eq-eqb _ _ (sym c.opcode_of.ensures ∙ c.if-opcode_of-eq-VARARG.true)) c.push.ensures
 
 pub returns : goal.returns
 unfolding results_alone

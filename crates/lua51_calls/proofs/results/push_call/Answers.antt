@@ -2,11 +2,11 @@
 use mathlib.Core.Path.{◌≡◌, sym}
 use Rattle.lua51_instruction.specs.Proto.{word}
 use Rattle.ast.specs.Statement.{expr}
-use Rattle.ast.proofs.Adds.{adds_then}
+use Rattle.ast.proofs.Written.{then}
 use Rattle.lua51_calls.proofs.results.push_call.Goals as goal
 
 pub returns : goal.returns
 unfolding expr
 returns c p st =
-    let is : word p c.args.i ≡ c.word_at.result = rw st (sym c.word_at.ensures) in
-    rw (is, ← c.a_of-a.ensures) (adds_then _ _ _ c.push_all-next.ensures (c.push_taken.ensures p st))
+    let is : word p c.args.i ≡ c.at_or.result = rw st (sym c.at_or.ensures) in
+    rw (is, ← c.a_of-a.ensures) (then c.push_all.ensures (c.push_taken.ensures p st))

@@ -1,46 +1,35 @@
 -- `check::check`: 7 to 11, then 12 to 14, then 15. Assumes nothing.
 use Prim.Native.Nat.{ℕ}
-use mathlib.Core.Path.{◌≡◌, sym, ap, ◌∙◌}
-use mathlib.Core.List.{[]}
-use native.Mathlib.Omega.{arith}
+use mathlib.Core.Path.{sym, ap, ◌∙◌}
 use lib.ListN.{length}
+use Rattle.std.proofs.lemmas.Result.{err_from_is_err_and}
 use Rattle.lua51_function.proofs.Standing.{standing, stands}
-use Rattle.lua51_lifter.specs.Verdict.{verdict_of}
-use Rattle.lua51_lifter.specs.Check.{fine, first_refusal, line_verdict}
-use Rattle.lua51_uses.specs.Judgement.{check_words}
-use Rattle.lua51_checker.proofs.Judging.{words_decide, uses_decide, lines_decide, found_words, found_more}
+use Rattle.lua51_lifter.specs.Check.{first_refusal, line_verdict}
+use Rattle.lua51_checker.proofs.Judging.{words_decide, uses_decide, lines_decide, found_words}
 use Rattle.lua51_checker.proofs.check.check.Goals as goal
 
-pub returns-in_default-clause-result_value : goal.returns-in_default-clause-result_value
-returns-in_default-clause-result_value c =
-    let w = c.check_words-verdict in
-    λ p s r h k. words_decide p w.result (w.ensures p c.args.nups.now s) _ c.in_default.is
+pub returns-in_err-check_words-clause-result_value : goal.returns-in_err-check_words-clause-result_value
+returns-in_err-check_words-clause-result_value c =
+    let r = err_from_is_err_and c.from_residual.result c.from_residual.ensures.1 in
+    λ p d h k l. rw (r.1, r.2) (words_decide p _ _ (c.in_err-check_words.ensures p d))
 
-pub returns-in_default-clause-anyway : goal.returns-in_default-clause-anyway
-returns-in_default-clause-anyway c =
-    let w = c.check_words-verdict in
-    let a = c.args in
-    let p = standing a.head a.words.now a.kinds.now a.nested.now [] in
-    found_more 7 11 (length a.words.now) 7 15 (verdict_of w.result) (omega arith) (omega arith)
-    (rw (w.ensures p [] (stands a.head a.words.now a.kinds.now a.nested.now [])) (found_words p))
+pub returns-in_err-check_words-clause-anyway : goal.returns-in_err-check_words-clause-anyway
+returns-in_err-check_words-clause-anyway c =
+    let s = c.args.subject.now in
+    let r = err_from_is_err_and c.from_residual.result c.from_residual.ensures.1 in
+    let p = standing s.head s.words.now s.kinds.now s.nested.now s.nups.now in
+    rw (r.1, r.2)
+    (found_words p _ _ (c.in_err-check_words.ensures p (stands s.head s.words.now s.kinds.now s.nested.now s.nups.now)))
 
-pub returns-in_default-used-clause-result_value : goal.returns-in_default-used-clause-result_value
-returns-in_default-used-clause-result_value c =
-    let w = c.check_words-verdict in
-    let u = c.check_uses-used in
-    λ p s r h k.
-    let words : verdict_of w.result ≡ check_words p = w.ensures p c.args.nups.now s in
-    let ok : check_words p ≡ fine = sym words ∙ ap verdict_of c.in-Fine.is in
-    uses_decide p w.result words c.in-Fine.is u.result (u.ensures.result_value p s.words s.nups ok h k) _ c.in_default-used.is
+pub returns-in_err-check_uses-clause-result_value : goal.returns-in_err-check_uses-clause-result_value
+returns-in_err-check_uses-clause-result_value c =
+    let r = err_from_is_err_and c.from_residual-in_err-check_uses.result c.from_residual-in_err-check_uses.ensures.1 in
+    λ p d h k l. rw (r.1, r.2)
+    (let ok = c.in_ok-check_words.ensures p d in
+    uses_decide p ok _ _ (c.in_err-check_uses.ensures.result_value p d.words d.nups (sym ok) k l))
 
 pub returns-clause-result_value : goal.returns-clause-result_value
-returns-clause-result_value c =
-    let w = c.check_words-verdict in
-    let u = c.check_uses-used in
-    let l = c.lines_verdict-lined in
-    λ p s r h k.
-    let words : verdict_of w.result ≡ check_words p = w.ensures p c.args.nups.now s in
-    let ok : check_words p ≡ fine = sym words ∙ ap verdict_of c.in-Fine.is in
-    lines_decide p w.result words c.in-Fine.is u.result (u.ensures.result_value p s.words s.nups ok h k)
-    l.result c.in-Fine-used.is
-    (l.ensures.result_value p r ∙ ap (λ (n : ℕ). first_refusal (line_verdict p) 0 n) (sym (ap length s.words)))
+returns-clause-result_value c = λ p d h k l.
+    let ok = c.in_ok-check_words.ensures p d in
+    lines_decide p ok _ (c.in_ok-check_uses.ensures.result_value p d.words d.nups (sym ok) k l)
+    (c.lines_verdict.ensures.result_value p h ∙ ap (λ (n : ℕ). first_refusal (line_verdict p) 0 n) (sym (ap length d.words)))

@@ -1,22 +1,13 @@
--- `chunk::signature` meets its contract. The loop's invariant: what is left gives what the whole gives. Assumes nothing.
-use mathlib.Core.Path.{sym, ◌∙◌}
-use Prim.Native.Nat.{◌≤◌, ◌<◌}
-use native.Mathlib.Omega.{arith}
-use lib.ListN.{length}
+-- `chunk::signature` meets its contract. Assumes nothing.
+use Rattle.std.proofs.Common.{◌∙◌, ◌<◌, length, arith}
+use Rattle.std.proofs.lemmas.Result.{err_from_is_err_and}
 use Rattle.lua51_deserializer.specs.Chunk.{header}
-use Rattle.lua51_deserializer.specs.Cursor.{read_of}
-use Rattle.lua51_deserializer.proofs.Cursor.{signature_turn, signature_none}
+use Rattle.lua51_deserializer.proofs.Cursor.{signature_stops}
 use Rattle.lua51_deserializer.proofs.chunk.signature.Goals as goal
 
-pub loop-i-preserved : goal.loop-i-preserved
-loop-i-preserved c =
-    let l = c.loop-i in
-    let e = c.exactly-read in
-    let h : l.i < length header = omega arith in
-    (omega arith, signature_turn c.args.s.now header l.i (read_of l.read) (read_of e.result) h e.ensures ∙ l.invariant.1)
-
-pub returns : goal.returns
-returns c =
-    let l = c.loop-i in
-    let h : length header ≤ l.i = omega arith in
-    sym (signature_none c.args.s.now header l.i (read_of l.read) h) ∙ l.invariant.1
+pub returns-in_err-at : goal.returns-in_err-at
+returns-in_err-at c =
+    let l = c.loop-b in
+    let h : l.b-index < length header = omega arith in
+    let p = err_from_is_err_and c.from_residual.result c.from_residual.ensures.1 in
+    rw (p.1, p.2) (signature_stops c.args.s.now header l.b-index l.at h c.in_err-at.ensures ∙ l.invariant)

@@ -1,30 +1,21 @@
--- `fields::elements` meets its contract. The loop's invariant: what is left gives what the whole gives. Assumes nothing.
-use mathlib.Core.Path.{sym, ◌∙◌}
-use Prim.Native.Nat.{◌+◌, ◌-◌}
-use native.Mathlib.Omega.{arith}
-use Rattle.lua51_deserializer.specs.Chunk.{again}
-use Rattle.lua51_deserializer.specs.Cursor.{read_of, element_of}
-use Rattle.lua51_deserializer.proofs.Cursor.{sticky, again_turn, again_none}
+-- `fields::elements` meets its contract. Assumes nothing.
+use Rattle.std.proofs.Common.{Ok, Err, ◌∙◌, rules}
+use Rattle.std.proofs.lemmas.Result.{err_from_is_err_and}
+use Rattle.lua51_deserializer.proofs.Cursor.{again_turn, again_none, again_stops}
 use Rattle.lua51_deserializer.proofs.fields.elements.Goals as goal
 
-pub returns-in_default : goal.returns-in_default
-returns-in_default c =
+pub returns-in_err-reached : goal.returns-in_err-reached
+returns-in_err-reached g c =
     let l = c.loop-i in
-    let e = c.next_element-read in
-    sticky e.result (again (element_of c.args.s.now c.args.of) (c.args.n - (l.i + 1))) _ c.in_default.is
-    ∙ (again_turn (element_of c.args.s.now c.args.of) c.args.n l.i (read_of l.read) (read_of e.result) c.loop-i-test.true e.ensures
-    ∙ l.invariant.1)
+    let p = err_from_is_err_and c.from_residual.result c.from_residual.ensures.1 in
+    rw (p.1, p.2)
+    (again_stops g.reads c.args.n l.i l.reached c.loop-i-test.true (c.requires.1.1 l.reached (Err c.in_err-reached.field-0.0) l.invariant.in_range c.in_err-reached.ensures) ∙ l.invariant.left)
 
 pub loop-i-preserved : goal.loop-i-preserved
-loop-i-preserved c =
-    let l = c.loop-i in
-    let e = c.next_element-read in (
-      omega arith,
-      again_turn (element_of c.args.s.now c.args.of) c.args.n l.i (read_of l.read) (read_of e.result) c.loop-i-test.true e.ensures
-          ∙ l.invariant.1,
-    )
+loop-i-preserved g c = let l = c.loop-i in record {
+  in_range = search rules;
+  left = again_turn g.reads c.args.n l.i l.reached c.in_ok-reached.reached c.loop-i-test.true (c.requires.1.1 l.reached (Ok c.in_ok-reached.reached) l.invariant.in_range c.in_ok-reached.ensures) ∙ l.invariant.left;
+}
 
 pub returns : goal.returns
-returns c =
-    let l = c.loop-i in
-    sym (again_none (element_of c.args.s.now c.args.of) c.args.n l.i (read_of l.read) c.loop-i-test.false) ∙ l.invariant.1
+returns g c = again_none g.reads c.args.n c.loop-i.i c.loop-i.reached c.loop-i-test.false ∙ c.loop-i.invariant.left

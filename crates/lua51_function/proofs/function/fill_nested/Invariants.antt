@@ -1,19 +1,15 @@
--- `function::fill_nested`: the loop's invariant: n nested functions stand in front, and the rest are those from k on,
--- itself the next. Assumes nothing.
-use mathlib.Core.Path.{◌≡◌}
-use Prim.Native.Nat.{◌-◌, ◌<◌}
-use lib.ListN.{length, get_or, drop}
+-- `function::fill_nested`: the loop's invariant: n nested functions stand in front, and the rest are those from k on.
+-- Assumes nothing.
+use lib.ListN.{drop}
 use Rattle.lua51_function.specs.Function.{held_of, number_in, upvalues_in}
-use Rattle.lua51_deserializer.specs.Chunk.{nowhere, nested_in}
+use Rattle.lua51_deserializer.specs.Chunk.{nested_in}
 use Rattle.lua51_function.proofs.Buffers.{Filling}
 use Rattle.lua51_function.proofs.function.fill_nested.Given as goal
 
 abbrev pub invariant-loop-k : goal.invariant-loop-k
 invariant-loop-k l =
     let ps = held_of l.functions in
-    (0 < l.k) × (l.k < length ps → (get_or ps l.k nowhere).parent ≡ l.me)
-    × Filling l.n (nested_in number_in l.me 0 ps) (nested_in number_in l.me l.k (drop l.k ps)) l.initial.numbers l.numbers
-    × Filling l.n (nested_in (upvalues_in l.s) l.me 0 ps) (nested_in (upvalues_in l.s) l.me l.k (drop l.k ps)) l.initial.nups l.nups
-
-abbrev pub decreases-loop-k : goal.decreases-loop-k
-decreases-loop-k l = l.count - l.k
+    record {
+      numbers : Filling l.n (nested_in number_in l.me 0 ps) (nested_in number_in l.me l.k (drop l.k ps)) l.initial.numbers l.numbers;
+      nups : Filling l.n (nested_in (upvalues_in l.s) l.me 0 ps) (nested_in (upvalues_in l.s) l.me l.k (drop l.k ps)) l.initial.nups l.nups;
+    }

@@ -15,10 +15,10 @@ use Rattle.lua51_function.proofs.Buffers.{ints_length, map_at, word_at}
 use Rattle.lua51_function.proofs.function.fill_words.Goals as goal
 
 pub loop-i-init : goal.loop-i-init
-loop-i-init c = (omega arith, filling_none _ _)
+loop-i-init c = filling_none _ _
 
 pub bounds-words-i : goal.bounds-words-i
-bounds-words-i c = omega (arith, filling_length c.loop-i.invariant.1)
+bounds-words-i c = omega (arith, filling_length c.loop-i.invariant)
 
 pub loop-i-preserved : goal.loop-i-preserved
 loop-i-preserved c =
@@ -38,7 +38,7 @@ loop-i-preserved c =
     let value : c.int_at-word.result ≡ get_or stored i 0 =
     word_at s w (int_at s w) i h c.words_of-at.ensures c.place_after-first.ensures c.place_after.ensures c.int_at-word.ensures in
     let put : c.word_back.result ≡ get_or words i 0 = c.word_back.ensures ∙ (ap back value ∙ sym (map_at back stored i 0 among)) in
-    (omega arith, filling_more c.word_back.result (filling_as l.invariant.1 next) put (omega arith))
+    filling_more c.word_back.result (filling_as l.invariant next) put (omega arith)
 
 pub returns : goal.returns
 returns c =
@@ -48,6 +48,6 @@ returns c =
     let w = words_of s a.start in
     let stored = ints s (w + 4) (int_at s w) in
     let n : c.int_at.result ≡ int_at s w = c.int_at.ensures ∙ rw c.words_of-at.ensures (int_within s w) in
-    let e : l.i ≡ c.least-n.result = omega arith in
+    let e : l.i ≡ c.min-n.result = omega arith in
     let long : length (map (word_by a.inverse.now) stored) ≡ int_at s w = length-map stored _ ∙ ints_length s (w + 4) (int_at s w) in
-    filled_count (rw e at l.invariant.1) (length a.words.now) (omega arith)
+    filled_count (rw e at l.invariant) (length a.words.now) (omega arith)

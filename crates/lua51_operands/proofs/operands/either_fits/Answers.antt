@@ -6,9 +6,9 @@ use Rattle.lua51_operands.proofs.operands.either_fits.Goals as goal
 pub returns-in-Register : goal.returns-in-Register
 returns-in-Register c =
     let a = c.args in
-    register_fits a.x c.in-Register.register a.stack a.constants (sym c.in-Register.is ∙ c.register_or_constant.ensures)
+    cc (register_fits a.x c.in-Register.register a.stack a.constants (sym c.in-Register.is ∙ c.register_or_constant.ensures))
 
 pub returns-in-Constant : goal.returns-in-Constant
 returns-in-Constant c =
     let a = c.args in
-    constant_fits a.x c.in-Constant.constant a.stack a.constants (sym c.in-Constant.is ∙ c.register_or_constant.ensures)
+    cc (constant_fits a.x c.in-Constant.constant a.stack a.constants (sym c.in-Constant.is ∙ c.register_or_constant.ensures))

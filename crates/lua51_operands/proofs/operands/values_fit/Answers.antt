@@ -4,4 +4,4 @@ use Rattle.lua51_operands.proofs.Fitting.{run_fits}
 use Rattle.lua51_operands.proofs.operands.values_fit.Goals as goal
 
 pub returns : goal.returns
-returns c = run_fits 2 c.args.a c.args.n c.args.stack (omega arith)
+returns c = cc (run_fits 2 c.args.a c.args.n c.args.stack (omega arith))

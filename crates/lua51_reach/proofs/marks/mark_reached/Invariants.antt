@@ -1,5 +1,5 @@
 -- `marks::mark_reached`: a word is marked where one of the words so far leads to it. Assumes nothing.
-use Prim.Native.Nat.{ℕ, ◌-◌, ◌<◌, ◌≤◌}
+use Prim.Native.Nat.{ℕ, ◌<◌}
 use mathlib.Core.Path.{◌≡◌}
 use lib.Dec.{ltb}
 use lib.ListN.{length, get_or}
@@ -9,9 +9,4 @@ use Rattle.lua51_reach.proofs.Marking.{so_far}
 use Rattle.lua51_reach.proofs.marks.mark_reached.Given as goal
 
 abbrev pub invariant-loop-i : goal.invariant-loop-i
-invariant-loop-i l =
-    (l.i ≤ length l.words) × (length l.marks ≡ length l.initial.marks) ×
-    ((p : Proto) → p.words ≡ l.words → (j : ℕ) → j < length l.marks → get_or l.marks j 0 ≡ bit (ltb 0 (so_far p j l.i)))
-
-abbrev pub decreases-loop-i : goal.decreases-loop-i
-decreases-loop-i l = length l.words - l.i
+invariant-loop-i l = (p : Proto) → p.words ≡ l.words → (j : ℕ) → j < length l.marks → get_or l.marks j 0 ≡ bit (ltb 0 (so_far p j l.i))

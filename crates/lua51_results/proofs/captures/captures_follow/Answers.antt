@@ -1,33 +1,19 @@
--- `captures::captures_follow`: what is left to follow decides as the whole does. Assumes nothing.
-use mathlib.Core.Bool.{true, false, not, ◌&&◌}
-use mathlib.Core.Path.{sym, ◌∙◌}
-use Rattle.lua51_results.proofs.Capturing.{captures_end, captures_beyond, captures_one}
+-- `captures::captures_follow`: each word is judged for itself. Assumes nothing.
+use Rattle.std.proofs.Common.{rules, refl, ◌+◌, arith, sym, ◌∙◌}
+use Rattle.std.proofs.lemmas.Iterator.{YieldsList-from_range}
+use Rattle.std.proofs.lemmas.Iterator.Search.{all_from_yields_List}
+use Rattle.std.proofs.lemmas.Bool.{lt-leb}
+use Rattle.lua51_results.proofs.Capturing.{can_capture, captures_all, captures_few}
 use Rattle.lua51_results.proofs.captures.captures_follow.Goals as goal
 
-pub returns-then-words-at : goal.returns-then-words-at
-returns-then-words-at c =
+pub returns-then-count-saturating_sub : goal.returns-then-count-saturating_sub
+returns-then-count-saturating_sub c =
     let a = c.args in
-    let l = c.loop-left in
-    captures_beyond a.words.now a.leaders.now l.at l.left c.loop-left-test.true c.if-words-at.true ∙ l.invariant
+    all_from_yields_List (can_capture a.words.now a.leaders.now) _ _ c.all.result c.all.ensures.ran
+    (YieldsList-from_range a.first (a.first + a.count) a.count refl (omega arith)) (λ x b q k. (search rules, search rules))
+    ∙ captures_all a.words.now a.leaders.now a.count a.first (omega arith)
 
-pub returns-then-not-is_capture-marked : goal.returns-then-not-is_capture-marked
-returns-then-not-is_capture-marked c =
+pub returns-else-count-saturating_sub : goal.returns-else-count-saturating_sub
+returns-else-count-saturating_sub c =
     let a = c.args in
-    let l = c.loop-left in
-    captures_one a.words.now a.leaders.now l.at l.left false c.loop-left-test.true c.if-words-at.false
-    (sym (λ k. c.is_capture.ensures k && not (c.marked.ensures k)) ∙ c.if-not-is_capture-marked.true)
-    ∙ l.invariant
-
-pub loop-left-preserved : goal.loop-left-preserved
-loop-left-preserved c =
-    let a = c.args in
-    let l = c.loop-left in
-    captures_one a.words.now a.leaders.now l.at l.left true c.loop-left-test.true c.if-words-at.false
-    (sym (λ k. c.is_capture.ensures k && not (c.marked.ensures k)) ∙ c.if-not-is_capture-marked.false)
-    ∙ l.invariant
-
-pub returns : goal.returns
-returns c =
-    let a = c.args in
-    let l = c.loop-left in
-    captures_end a.words.now a.leaders.now l.at l.left c.loop-left-test.false ∙ l.invariant
+    lt-leb _ _ c.if-count-saturating_sub.false ∙ sym (captures_few a.words.now a.leaders.now a.count a.first (omega arith))

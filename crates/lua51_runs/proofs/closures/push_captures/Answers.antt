@@ -1,26 +1,21 @@
 -- One turn writes the first of the captures that are left. Assumes nothing.
-use mathlib.Core.Path.{◌≡◌, refl, ◌∙◌, sym}
+use Rattle.std.proofs.Common.{◌≡◌, ◌+◌, ◌∙◌, length, min, arith}
+use Rattle.std.proofs.lemmas.List.{take_rest}
 use Rattle.lua51_instruction.specs.Proto.{word}
-use Rattle.ast.specs.Buffer.{buffer}
-use Rattle.lua51_runs.proofs.Captured.{captures_turn, captures_done}
-use Rattle.std.proofs.Common.{rules}
+use Rattle.ast.proofs.Written.{turned, done}
+use Rattle.lua51_runs.proofs.Captured.{word_behind, captures_turn, captures_done}
 use Rattle.lua51_runs.proofs.closures.push_captures.Goals as goal
 
-pub loop-left-init : goal.loop-left-init
-loop-left-init c = (search rules, λ p st. refl)
-
-pub loop-left-preserved : goal.loop-left-preserved
-loop-left-preserved c =
-    let l = c.loop-left in
-    let k = c.place_behind-at.result in (
-      search rules,
-      λ p st.
-          let is : word p k ≡ c.word_at-word.result = rw st (sym c.word_at-word.ensures) in
-          let turn = captures_turn p (buffer l.run l.next) l.at k l.left (search rules) (rw st c.place_behind-at.ensures) in
-          rw (c.push_all-next.ensures, c.capture_kind.ensures, c.b_of.ensures, ← is) (l.invariant.1 p st ∙ turn),
-    )
+pub loop-k-preserved : goal.loop-k-preserved
+loop-k-preserved c =
+    let l = c.loop-k in
+    λ p ws.
+    let i = c.args.i in
+    let near : c.min.result ≡ min (length p.words) (min (i + 1) 18446744073709551615) = rw (ws, ← c.saturating_add.ensures) c.min.ensures in
+    let is : word p (i + (l.k + 1)) ≡ c.at_or-word.result = word_behind p i l.k _ _ near (rw ws (omega arith)) ∙ rw (ws, c.at_or-word.ensures, take_rest) in
+    turned (l.invariant p ws) (rw (c.capture_kind.ensures, c.b_of.ensures, ← is) at c.push_all.ensures)
+    (captures_turn p (i + l.k) (i + (l.k + 1)) _ _ (omega arith) (omega arith))
 
 pub returns : goal.returns
-returns c p st =
-    let l = c.loop-left in
-    sym (l.invariant.1 p st ∙ captures_done p (buffer l.run l.next) l.at l.left c.loop-left-test.false)
+returns c =
+    λ p ws. done (c.loop-k.invariant p ws) (captures_done p _ _ (omega arith))

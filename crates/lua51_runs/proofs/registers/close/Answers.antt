@@ -1,13 +1,17 @@
--- `close` meets its contract: the count, then the registers. Assumes nothing.
-use Rattle.std.proofs.Common.{◌-◌}
+-- One turn writes the first of the registers that are left. Assumes nothing.
+use Rattle.std.proofs.Common.{◌-◌, arith}
 use Rattle.basics.proofs.Range.{over_length}
 use Rattle.ast.specs.Statement.{run}
-use Rattle.ast.proofs.Adds.{adds_then}
+use Rattle.ast.proofs.Written.{then, turned, done}
+use Rattle.lua51_runs.proofs.Assigned.{range_turn, range_done}
 use Rattle.lua51_runs.proofs.registers.close.Goals as goal
+
+pub loop-register-preserved : goal.loop-register-preserved
+loop-register-preserved c = turned c.loop-register.invariant c.push.ensures (range_turn _ _ _ (omega arith))
 
 pub returns : goal.returns
 unfolding run
 returns c =
     let a = c.args in
-    rw (over_length (λ r. r) a.first (a.stack - a.first), ← c.minus-count.ensures)
-    (adds_then _ _ _ c.push_all-used.ensures c.push_range.ensures)
+    rw (over_length (λ r. r) a.first (a.stack - a.first))
+    (then (rw c.saturating_sub-count.ensures at c.push_all.ensures) (done c.loop-register.invariant (range_done _ _ (omega arith))))

@@ -9,17 +9,10 @@ use Rattle.lua51_lifter.specs.Lift.{statements_by}
 use Rattle.lua51_statements.proofs.Counts.{at_most_one}
 use Rattle.lua51_statements.proofs.statement.statement.Goals as goal
 
-pub returns-then-opcode-le-SELF : goal.returns-then-opcode-le-SELF
-returns-then-opcode-le-SELF c p ws ns us sk h =
-    let i = c.args.i in
-    let d : FieldsOf (word p i) c.fields_of-w.result = rw (ws, ← c.word_at.ensures) c.fields_of-w.ensures in
-    let below = rw (← d.opcode) at h in
-    rw (← d.opcode) (c.assignment.ensures.result_after p i d c.if-opcode-le-SELF.true below)
-
 pub returns-then-opcode-le-CONCAT : goal.returns-then-opcode-le-CONCAT
-returns-then-opcode-le-CONCAT c p ws ns us sk h =
+returns-then-opcode-le-CONCAT c p ks st h =
     let i = c.args.i in
-    let d : FieldsOf (word p i) c.fields_of-w.result = rw (ws, ← c.word_at.ensures) c.fields_of-w.ensures in
+    let d : FieldsOf (word p i) c.fields_of-w.result = rw (st.words, ← c.at_or.ensures) c.fields_of-w.ensures in
     let below = rw (← d.opcode) at h in
     let o = c.fields_of-w.result.opcode in
     let past = c.if-opcode-le-SELF.false in
@@ -29,9 +22,9 @@ returns-then-opcode-le-CONCAT c p ws ns us sk h =
 
 pub returns-then-opcode-le-TESTSET : goal.returns-then-opcode-le-TESTSET
 unfolding op_of statements_by
-returns-then-opcode-le-TESTSET c p ws ns us sk h =
+returns-then-opcode-le-TESTSET c p ks st h =
     let i = c.args.i in
-    let d : FieldsOf (word p i) c.fields_of-w.result = rw (ws, ← c.word_at.ensures) c.fields_of-w.ensures in
+    let d : FieldsOf (word p i) c.fields_of-w.result = rw (st.words, ← c.at_or.ensures) c.fields_of-w.ensures in
     let below = rw (← d.opcode) at h in
     let o = c.fields_of-w.result.opcode in
     let past = c.if-opcode-le-CONCAT.false in
@@ -41,8 +34,8 @@ returns-then-opcode-le-TESTSET c p ws ns us sk h =
     rw (← d.opcode, first) (c.test.ensures.result_after p i d (omega (arith, past, not)) upto)
 
 pub returns : goal.returns
-returns c p ws ns us sk h =
+returns c p ks st h =
     let i = c.args.i in
-    let d : FieldsOf (word p i) c.fields_of-w.result = rw (ws, ← c.word_at.ensures) c.fields_of-w.ensures in
+    let d : FieldsOf (word p i) c.fields_of-w.result = rw (st.words, ← c.at_or.ensures) c.fields_of-w.ensures in
     let below = rw (← d.opcode) at h in
-    rw (← d.opcode) (c.from_call_on.ensures p ws ns us sk d c.if-opcode-le-TESTSET.false below)
+    rw (← d.opcode) (c.from_call_on.ensures p ks st d c.if-opcode-le-TESTSET.false below)

@@ -8,7 +8,7 @@ use Rattle.lua51_instruction.specs.Word.{op_of}
 use Rattle.lua51_instruction.specs.Proto.{opcode, arg_a, arg_b}
 use Rattle.ast.specs.Statement.{nil, set_register}
 use Rattle.lua51_lifter.specs.Lift.{statements_by}
-use Rattle.lua51_statements.proofs.Counts.{past_last, call_count, vararg_count, one_each}
+use Rattle.lua51_statements.proofs.Counts.{past_last, one_unless, call_count, vararg_count, one_each}
 use Rattle.lua51_statements.proofs.statement.statement_count.Goals as goal
 
 pub returns-then-opcode-gt-VARARG : goal.returns-then-opcode-gt-VARARG
@@ -28,7 +28,7 @@ returns-in-3 c p i e =
       ← c.b_of.ensures,
       ← c.a_of.ensures,
     )
-    c.minus.ensures
+    c.saturating_sub.ensures
 
 pub returns-in-11 : goal.returns-in-11
 unfolding op_of statements_by
@@ -58,13 +58,13 @@ pub returns-in-28 : goal.returns-in-28
 unfolding op_of
 returns-in-28 c p i e =
     let is : opcode p i ≡ 28 = rw e (sym c.opcode_of-opcode.ensures ∙ c.in-28.is) in
-    rw (is, call_count p i, e, ← c.c_of.ensures) c.count_unless_open.ensures
+    rw (is, call_count p i, e, ← c.c_of.ensures) (c.from.ensures ∙ one_unless c.c_of.result)
 
 pub returns-in-37 : goal.returns-in-37
 unfolding op_of
 returns-in-37 c p i e =
     let is : opcode p i ≡ 37 = rw e (sym c.opcode_of-opcode.ensures ∙ c.in-37.is) in
-    rw (is, vararg_count p i, e, ← c.b_of-in-37.ensures) c.count_unless_open-in-37.ensures
+    rw (is, vararg_count p i, e, ← c.b_of-in-37.ensures) (c.from-in-37.ensures ∙ one_unless c.b_of-in-37.result)
 
 pub returns-in_default : goal.returns-in_default
 returns-in_default c p i e =
