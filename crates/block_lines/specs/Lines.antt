@@ -43,13 +43,13 @@ pub record Draws (p : Proto) (d : Drawn) : Type 0 where
 abbrev pub lines_in : List ℕ → ℕ → ℕ → List ℕ
 lines_in ls first past = over (λ i. only (line_in ls i)) first (past - first)
 
--- the number of a block's kind in its B line
+-- 'kind (0 code, 1 entry, 2 between'
 abbrev pub number_of : BlockKind → ℕ
 number_of Code = 0
 number_of Entry = 1
 number_of Between = 2
 
--- 'B: block, first, past, kind, lowest line, highest line'
+-- the numbers of a B line: 'block, first word, one past the last, kind', and (document 02, 2) 'the lowest and highest line' at the end
 abbrev pub block_numbers : Block → List ℕ
 block_numbers b = b.number ∷ b.first ∷ b.past ∷ number_of b.kind ∷ b.span.lowest ∷ b.span.highest ∷ []
 

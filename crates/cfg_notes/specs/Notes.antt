@@ -51,11 +51,12 @@ betweens_in ns = take (third ns) (drop (third ns) ns)
 abbrev pub fronts_in : List ℕ → List ℕ
 fronts_in ns = take (third ns) (drop (third ns + third ns) ns)
 
--- what a note says: its number, or, of one that is 1 more than a number, that number; none where it is 0
+-- the number that a note is; none where it is 0
 abbrev pub noted : ℕ → Option ℕ
 noted zero = None
 noted (suc n) = Some (suc n)
 
+-- the number that a note is 1 more than; none where it is 0
 abbrev pub one_less : ℕ → Option ℕ
 one_less zero = None
 one_less (suc n) = Some n
