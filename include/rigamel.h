@@ -47,7 +47,7 @@
  *   With another length it points to that many bytes. A length is at most PTRDIFF_MAX. A pointer to a reading is never NULL.
  * - Input, output and reading may not overlap, and no one else may write them while the call runs. The input is only read.
  * - There is an answer for every input, reading and output, whatever their length and content. A refusal is an answer.
- * - It takes at most some 450 KiB of stack, for functions nested 32 deep, and 240 KiB for others (measured, not proved).
+ * - It takes at most some 240 KiB of stack (measured, not proved).
  *
  * What each function below is said to do its contract in crates/rigamel says too, and that is proved of its source. That this
  * header says the same, and that the compiled archive does what the source says, is not proved (docs/PROOF.md); tests/c/run tries
