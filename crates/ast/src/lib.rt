@@ -84,7 +84,7 @@ pub const NO_TAIL: u32 = 0;
 // ------------------------------------------------------------ writers
 
 // A run that is written into a buffer that the caller lends: the buffer, and how many of its numbers are used. A full buffer takes
-// nothing more.
+// nothing more. An output of `lines` has this shape, but counts on past its end: the two would share `new` alone.
 #[derive(Drop)]
 pub struct Run<'a> {
     pub numbers: &'a mut [u32],
@@ -107,7 +107,7 @@ impl<'a> Run<'a> {
         &self.numbers[..self.used.min(self.numbers.len())]
     }
 
-    // Writes one number: stored if the buffer has a place for it.
+    // Writes one number: stored if the buffer has a place for it. By index: std says nothing of a slice behind `get_mut`.
     pub fn push(&mut self, x: u32)
         ensures { Adds self.old self.new (x ∷ []) }
     {

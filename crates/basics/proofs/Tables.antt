@@ -4,36 +4,38 @@ use native.Mathlib.Omega.{arith}
 use native.Mathlib.Decide.{ℕ_discrete}
 use mathlib.Core.List.{List}
 use mathlib.Core.Path.{◌≡◌, refl, ◌∙◌, sym, ap, subst}
-use lib.ListN.{length, get_or, set, replicate}
-use Rattle.std.proofs.lemmas.List.{length-replicate, get_or-replicate}
+use lib.ListN.{length, get_or, set}
 use lib.Seq.{get_or-set_same, get_or-set_other, ext_get_or}
-use Rattle.basics.specs.Range.{sum, table}
+use Rattle.basics.specs.Range.{sum, over, only, table}
 use Rattle.basics.proofs.Range.{over_at, over_length, sum_split}
+
+module _ {A : Type 0} (f : ℕ → A) (d : A) where
+  pub rows_at : (n i : ℕ) → i < n → get_or (over (λ j. only (f j)) 0 n) i d ≡ f i
+  rows_at n i lt = over_at f 0 n i d lt ∙ ap f (omega arith)
+
+  -- a list that has f's values is given by f
+  pub rows_by : (a : List A) (n : ℕ) → length a ≡ n → ((i : ℕ) → i < length a → get_or a i d ≡ f i) → a ≡ over (λ j. only (f j)) 0 n
+  rows_by a n e h =
+      ext_get_or d a (over (λ j. only (f j)) 0 n) (e ∙ sym (over_length f 0 n)) (λ i lt. h i lt ∙ sym (rows_at n i (rw e at lt)))
+
+  -- one entry more
+  pub row_more : (a : List A) (i : ℕ) (v : A) → v ≡ f i → i < length a → ((k : ℕ) → k < i → get_or a k d ≡ f k) → (k : ℕ) → k < i + 1 → get_or (set a i v) k d ≡ f k
+  row_more a i v q h below k l = go (ℕ_discrete k i)
+    where
+      go : Dec (k ≡ i) → get_or (set a i v) k d ≡ f k
+      go (yes e) = rw e (get_or-set_same a i v d h ∙ q)
+      go (no n) = get_or-set_other a i k v d n ∙ (let m : k < i = omega arith in below k m)
 
 module _ (f : ℕ → ℕ) where
   pub table_at : (n i : ℕ) → i < n → get_or (table f n) i 0 ≡ f i
-  table_at n i lt = over_at f 0 n i 0 lt ∙ ap f (omega arith)
+  table_at = rows_at f 0
 
   pub table_length : (n : ℕ) → length (table f n) ≡ n
   table_length n = over_length f 0 n
 
   -- a list that has f's values is the table
   pub tabled : (a : List ℕ) (n : ℕ) → length a ≡ n → ((i : ℕ) → i < length a → get_or a i 0 ≡ f i) → a ≡ table f n
-  tabled a n e h = ext_get_or 0 a (table f n) (e ∙ sym (table_length n)) (λ i lt. h i lt ∙ sym (table_at n i (rw e at lt)))
-
-  -- one value everywhere
-  pub replicated : (v : ℕ) (n : ℕ) → ((i : ℕ) → i < n → v ≡ f i) → replicate n v ≡ table f n
-  replicated v n h = tabled (replicate n v) n (length-replicate n v) (λ i lt.
-      let l : i < n = rw (length-replicate n v) at lt in
-      get_or-replicate n i v 0 l ∙ h i l)
-
-  -- one entry more
-  pub filled_more : (a : List ℕ) (i v : ℕ) → v ≡ f i → i < length a → ((k : ℕ) → k < i → get_or a k 0 ≡ f k) → (k : ℕ) → k < i + 1 → get_or (set a i v) k 0 ≡ f k
-  filled_more a i v q h below k l = go (ℕ_discrete k i)
-    where
-      go : Dec (k ≡ i) → get_or (set a i v) k 0 ≡ f k
-      go (yes e) = rw e (get_or-set_same a i v 0 h ∙ q)
-      go (no n) = get_or-set_other a i k v 0 n ∙ (let m : k < i = omega arith in below k m)
+  tabled = rows_by f 0
 
   pub sum_more : (i : ℕ) → sum f 0 (i + 1) ≡ sum f 0 i + f i
   unfolding sum

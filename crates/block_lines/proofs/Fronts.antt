@@ -4,7 +4,6 @@ use native.Mathlib.Omega.{arith}
 use mathlib.Core.Bool.{true, false, not, ◌&&◌}
 use mathlib.Core.List.{List, []}
 use mathlib.Core.Path.{◌≡◌, refl, ◌∙◌, sym}
-use lib.ListN.{get_or}
 use Rattle.std.specs.Option.{option_map_or}
 use Rattle.std.specs.Prelude.{Option, Some, None}
 use borrow.Author.Tests.{eqb-true}
@@ -14,7 +13,8 @@ use Rattle.basics.proofs.Tests.{either_way, and_left, and_right, not_is, or_case
 use Rattle.cfg.specs.Graph.{is_loop, then_of, diverted, entering}
 use Rattle.cfg.proofs.Diverting.{other_then}
 use Rattle.cfg.proofs.Entering.{diverted_many}
-use Rattle.cfg_notes.specs.Notes.{fronted, front_note, notes_of, one_less, fronts_in}
+use Rattle.cfg_notes.specs.Notes.{fronted, front_note, notes_of, note_in, one_less}
+use Rattle.cfg_notes.specs.declared.notes.Note.{Note}
 use Rattle.cfg_notes.proofs.Fronts.{set_fronted, loop_fronted, among_none, among_some}
 use Rattle.cfg_notes.proofs.Parts.{front_said}
 use Rattle.lua51_lifter.specs.Blocks.{Named, naming, brought, front}
@@ -64,7 +64,7 @@ module _ (p : Proto) where
       by_note (suc i) e = let at = among_some p t (size p) i e in rw at.to at (front_then i at.below at.fronted)
 
   -- what is read at the block's first word says its front
-  module _ (ns : List ℕ) (e : ns ≡ notes_of p) (t : ℕ) (le : t ≤ size p) {r : Option ℕ} (h : r ≡ one_less (get_or (fronts_in ns) t 0)) where
+  module _ (ns : List Note) (e : ns ≡ notes_of p) (t : ℕ) (le : t ≤ size p) {r : Option ℕ} (h : r ≡ one_less (note_in ns t).front) where
     said : front naming p t ≡ option_map_or (brought naming p) r []
     said = rw (h, front_said p ns e t le) (front_noted t)
 

@@ -4,7 +4,6 @@ use native.Mathlib.Omega.{arith}
 use mathlib.Core.Bool.{true, false, cond}
 use mathlib.Core.List.{List, [], ◌∷◌, ◌++◌, map, flat_map}
 use mathlib.Core.Path.{◌≡◌, refl, sym, ◌∙◌}
-use lib.ListN.{get_or}
 use Rattle.std.specs.Option.{unwrap_or}
 use Rattle.std.specs.Prelude.{Option, Some, None}
 use lib.Dec.{ltb, eqb}
@@ -19,7 +18,8 @@ use Rattle.basics.proofs.Tests.{either_way}
 use Rattle.cfg.specs.Graph.{Edge, leader, claims, past, leaving, block_of, is_loop, then_of, between_of, diverted}
 use Rattle.cfg.proofs.Leaders.{leader_claimed, past_found}
 use Rattle.cfg.proofs.Diverting.{loop_inside, then_most}
-use Rattle.cfg_notes.specs.Notes.{notes_of, noted, one_less, starts_in, betweens_in}
+use Rattle.cfg_notes.specs.Notes.{notes_of, note_in, noted, one_less}
+use Rattle.cfg_notes.specs.declared.notes.Note.{Note}
 use Rattle.cfg_notes.proofs.Parts.{block_said, between_said, given, ungiven}
 use Rattle.lua51_lifter.specs.Check.{check, fine, lands_inside}
 use Rattle.lua51_lifter.specs.Blocks.{leads, edges_of}
@@ -142,14 +142,14 @@ module _ (p : Proto) (j : ℕ) where
 
 -- ------------------------------------------------------------ what the notes say of the blocks
 
-module _ (p : Proto) (ns : List ℕ) (e : ns ≡ notes_of p) (i : ℕ) (le : i ≤ size p) where
+module _ (p : Proto) (ns : List Note) (e : ns ≡ notes_of p) (i : ℕ) (le : i ≤ size p) where
   -- the number of the block that starts there
-  pub block_read : leader p i ≡ true → {o : Option ℕ} {r : ℕ} → o ≡ one_less (get_or (starts_in ns) i 0) → r ≡ unwrap_or o 0 → r ≡ block_of p i
+  pub block_read : leader p i ≡ true → {o : Option ℕ} {r : ℕ} → o ≡ one_less (note_in ns i).start → r ≡ unwrap_or o 0 → r ≡ block_of p i
   block_read leads read is = rw (is, read, block_said p ns e i le, leads)
 
   -- a between block stands on the Then edge there, and its number; or none does
-  pub between_read : {o : Option ℕ} → o ≡ noted (get_or (betweens_in ns) i 0) → {r : ℕ} → o ≡ Some r → (diverted p i ≡ true) × (r ≡ between_of p i)
+  pub between_read : {o : Option ℕ} → o ≡ noted (note_in ns i).between → {r : ℕ} → o ≡ Some r → (diverted p i ≡ true) × (r ≡ between_of p i)
   between_read read some = given (diverted p i) (sym some ∙ read ∙ between_said p ns e i le)
 
-  pub no_between_read : {o : Option ℕ} → o ≡ noted (get_or (betweens_in ns) i 0) → o ≡ None → diverted p i ≡ false
+  pub no_between_read : {o : Option ℕ} → o ≡ noted (note_in ns i).between → o ≡ None → diverted p i ≡ false
   no_between_read read none = ungiven (diverted p i) (between_of p i) (sym none ∙ read ∙ between_said p ns e i le)

@@ -1,5 +1,5 @@
 -- What the printers of blocks go by: a function in which nothing is refused, what the code holds of it, and the notes of its graph.
-use Rattle.std.specs.Prelude.{ℕ, ◌-◌, ◌≤◌, cond, List, [], ◌∷◌, ◌≡◌}
+use Rattle.std.specs.Prelude.{ℕ, ◌-◌, ◌≤◌, min, max, cond, List, [], ◌∷◌, ◌≡◌}
 use Rattle.lua51_instruction.specs.Proto.{Proto, size}
 use Rattle.lua51_deserializer.specs.Chunk.{most_words}
 use Rattle.basics.specs.Range.{over, only}
@@ -11,6 +11,7 @@ use Rattle.lua51_lifter.specs.Check.{check, fine}
 use Rattle.lua51_lifter.specs.Blocks.{naming, code_block, between_block}
 use Rattle.lua51_lifter.specs.Listing.{block_line}
 use Rattle.block_lines.specs.declared.blocks.Block.{Block}
+use Rattle.block_lines.specs.declared.sources.Span.{Span}
 use Rattle.block_lines.specs.declared.blocks.Drawn.{Drawn}
 use Rattle.block_lines.specs.declared.blocks.BlockKind.{BlockKind}
 use Rattle.block_lines.specs.declared.blocks.BlockKind.TheVariants.{Code, Entry, Between}
@@ -42,6 +43,10 @@ pub record Draws (p : Proto) (d : Drawn) : Type 0 where
 -- the lines of the words from `first` to before `past`, by the bytes of word lines
 abbrev pub lines_in : List ℕ → ℕ → ℕ → List ℕ
 lines_in ls first past = over (λ i. only (line_in ls i)) first (past - first)
+
+-- a span with one line more
+abbrev pub widened : Span → ℕ → Span
+widened s line = record { lowest = min s.lowest line; highest = max s.highest line }
 
 -- 'kind (0 code, 1 entry, 2 between'
 abbrev pub number_of : BlockKind → ℕ

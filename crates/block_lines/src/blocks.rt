@@ -1,20 +1,22 @@
 // The lines of one block: of a code block, of the entry, of a between block.
-ghost use Rattle.std.specs.Prelude.{ℕ, ◌≤◌, ◌<◌, true, ◌≡◌, length, get_or};
+// The contracts speak of every function that is drawn so: a ghost field would fix one, which each caller would have to name.
+ghost use Rattle.std.specs.Prelude.{None, cond, ltb, ℕ, ◌≤◌, ◌<◌, true, ◌≡◌, length, get_or};
 ghost use mathlib.Core.List.{flat_map};
 ghost use Rattle.lines.specs.Line.{line, letter_b};
 ghost use Rattle.lines.specs.Out.{Puts, PrintsOn};
 ghost use Rattle.lua51_instruction.specs.Proto.{Proto, size};
-ghost use Rattle.cfg.specs.Graph.{leader, block_of};
+ghost use Rattle.cfg.specs.Graph.{leader, block_of, then_of};
+ghost use Rattle.cfg_notes.specs.Notes.{note_in, one_less};
 ghost use Rattle.lua51_lifter.specs.Blocks.{naming, front, code_block, entry_block};
 ghost use Rattle.lua51_lifter.specs.Listing.{block_line};
 ghost use Rattle.lua51_statements.specs.Lines.{line_within};
-ghost use Rattle.block_lines.specs.Lines.{run_numbers, Checked, Draws, between_lines, block_numbers};
+ghost use Rattle.block_lines.specs.Lines.{run_numbers, Checked, Draws, between_lines, block_numbers, number_of};
 
 use crate::edges::{put_edge_line, put_exits};
 use crate::sources::{NO_LINES, Span, span_of};
 use cfg::betweens::then_of;
 use cfg::edges::EdgeKind;
-use cfg_notes::notes::{between_at, block_at, front_at, range_end};
+use cfg_notes::notes::{Note, between_at, block_at, front_at, range_end};
 use lines::{LETTER_B, Output};
 use lua51_function::function::{Head, View};
 use lua51_lister::put_body;
@@ -28,16 +30,26 @@ enum BlockKind {
     Between = 2,
 }
 
-// What stands for an opcode where the entry's statements name one: no word gives them.
+// The number of a kind, which in Rust `as` alone gives.
+impl From<BlockKind> for usize {
+    ghost from_gives = { λ kind number. number ≡ number_of kind };
+
+    fn from(kind: BlockKind) -> usize {
+        kind as usize
+    }
+}
+
+// What stands for an opcode where the entry's statements name one: no word gives them. A number, since an S line prints it.
 const ENTRY_OPCODE: u8 = 99;
 
 // A function as the printers of its blocks see it: what the printers of its statements see of it, the bytes of its word lines, and the
-// notes of its graph.
+// notes of its graph. The output and the buffer for statements are passed beside it: a struct of the three would owe in each contract
+// that its references, what is drawn and the buffer's length stay.
 #[derive(Clone, Copy)]
 pub struct Drawn<'a> {
     pub function: View<'a>,
     pub lines: &'a [u8],
-    pub notes: &'a [u16],
+    pub notes: &'a [Note],
 }
 
 // What a block's B line says of it: its number, its words from `first` to before `past`, its kind, its source lines.
@@ -58,7 +70,7 @@ fn put_block_line(out: &mut Output, block: Block)
         block.number,
         block.first,
         block.past,
-        block.kind as usize,
+        usize::from(block.kind),
         block.span.lowest,
         block.span.highest,
     ];
@@ -76,7 +88,7 @@ fn put_front(out: &mut Output, run: &mut [u32], drawn: &Drawn, t: usize)
     }
 }
 
-// A closure's captures are counted by a byte: this states so of all counts, which a struct behind a reference does not.
+// States that a closure's captures are counted by a byte: of a slice in a struct behind a reference the checker does not know it.
 fn few_captures(nups: &[u8])
     ensures { (i : ℕ) → get_or nups.now i 0 ≤ 255 }
 {}
@@ -121,6 +133,15 @@ pub fn put_entry(out: &mut Output, head: Head, number: usize, n: usize)
     put_edge_line(out, EdgeKind::Plain, 0);
 }
 
+// The number of the block at the word that the Then edge of word i goes to; none where there is no such word or no block starts there.
+fn then_block(drawn: &Drawn, i: usize) -> Option<usize>
+    ensures { (p : Proto) → p.words ≡ drawn.now.function.words.now
+        → result ≡ cond (ltb i (size p)) (one_less (note_in drawn.now.notes.now (then_of p i)).start) None }
+{
+    let t = then_of(drawn.function.words, i)?;
+    block_at(drawn.notes, t)
+}
+
 // Prints the between block of word i, where it has one.
 pub fn put_between(out: &mut Output, run: &mut [u32], drawn: &Drawn, i: usize)
     ensures result_after { (p : Proto) → Checked p drawn.now → run_numbers ≤ length run.old → i < size p
@@ -141,6 +162,6 @@ pub fn put_between(out: &mut Output, run: &mut [u32], drawn: &Drawn, i: usize)
     };
     put_block_line(out, block);
     put_on_then(out, run, words, i);
-    let to = block_at(drawn.notes, then_of(words, i)).unwrap_or(0);
+    let to = then_block(drawn, i).unwrap_or(0);
     put_edge_line(out, EdgeKind::Plain, to);
 }

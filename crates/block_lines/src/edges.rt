@@ -1,4 +1,5 @@
 // The E lines of a range.
+// The contracts speak of every function that is drawn so: a ghost field would fix one, which each caller would have to name.
 ghost use Rattle.std.specs.Prelude.{eqb, ◌+◌, ◌≤◌, ◌<◌, true, ◌≡◌};
 ghost use mathlib.Core.List.{[], ◌∷◌, map, flat_map};
 ghost use Rattle.lines.specs.Line.{line, letter_e};
@@ -13,7 +14,7 @@ ghost use Rattle.block_lines.specs.Lines.{Checked};
 
 use crate::blocks::Drawn;
 use cfg::edges::{Edge, EdgeKind, Edges, edges_at};
-use cfg_notes::notes::{between_at, block_at};
+use cfg_notes::notes::{Note, between_at, block_at};
 use lines::{LETTER_E, Output};
 
 // Prints an E line.
@@ -31,7 +32,7 @@ fn may_divert(kind: EdgeKind) -> bool
 }
 
 // The number of the block that an edge of word i leads to: a loop's Then edge may lead to its between block.
-fn leads_to(notes: &[u16], i: usize, e: Edge) -> usize
+fn leads_to(notes: &[Note], i: usize, e: Edge) -> usize
     ensures { (p : Proto) → notes.now ≡ notes_of p → i < size p → e.to ≤ size p → leader p e.to ≡ true
         → result ≡ (leads p i (edge_meant e)).to }
 {
@@ -45,7 +46,7 @@ fn leads_to(notes: &[u16], i: usize, e: Edge) -> usize
 }
 
 // Prints the E line of an edge of word i.
-fn put_edge(out: &mut Output, notes: &[u16], i: usize, e: Edge)
+fn put_edge(out: &mut Output, notes: &[Note], i: usize, e: Edge)
     ensures result_after { (p : Proto) → notes.now ≡ notes_of p → i < size p → e.to ≤ size p → leader p e.to ≡ true
         → Puts out.old out.new (edge_line (leads p i (edge_meant e))) }
     ensures anyway { PrintsOn out.old out.new }

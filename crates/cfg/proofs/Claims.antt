@@ -7,7 +7,6 @@ use mathlib.Core.Path.{◌≡◌, refl, ◌∙◌}
 use lib.Dec.{eqb, ltb}
 use lib.ListN.{length, get_or}
 use borrow.Author.Tests.{ltb-true, ltb-false, lt-ltb}
-use Rattle.lua51_instruction.specs.Word.{Flow, row_of, field_opcode}
 use Rattle.lua51_instruction.specs.Proto.{Proto, size, flow_at}
 use Rattle.basics.specs.Range.{sum, times}
 use Rattle.basics.proofs.Tests.{either_way}
@@ -16,11 +15,7 @@ use Rattle.cfg.specs.Arrays.{put_marks, mark, bit}
 use Rattle.cfg.proofs.Tables.{marked_at}
 use Rattle.basics.proofs.Tables.{sum_more}
 
--- what the flow f of a function's word says, said of the function
-pub at_flow : {A : Type 0} (g : Flow → A) (x : A) (p : Proto) (ws : List ℕ) (i : ℕ) (f : Flow) → p.words ≡ ws → f ≡ (row_of (field_opcode (get_or ws i 0))).flow → x ≡ g f → x ≡ g (flow_at p i)
-at_flow g x p ws i f e h q = rw (e, ← h) q
-
--- of a word of the function
+-- what holds of a word of the function
 pub within : {A : Type 0} (x y none : A) (p : Proto) (ws : List ℕ) (i : ℕ) → p.words ≡ ws → i < length ws → y ≡ x → y ≡ cond (ltb i (size p)) x none
 within x y none p ws i e lt h = rw (e, lt-ltb i (length ws) lt) h
 

@@ -1,4 +1,5 @@
 // Edges: where a range leads behind its last word, and how many edges enter each block.
+// The contracts speak of every function with these words: a ghost field would fix one, which each caller would have to name.
 ghost use Rattle.std.specs.Prelude.{◌≡◌, ℕ, ◌+◌, ◌<◌, min, cond, [], ◌∷◌, ltb, length, get_or, set};
 ghost use Rattle.basics.specs.Range.{only, times, table};
 ghost use Rattle.lua51_instruction.specs.Proto.{Proto, size, flow_at};
@@ -18,7 +19,7 @@ pub enum EdgeKind {
     Else = 2,
 }
 
-// The number of a kind.
+// The number of a kind, which in Rust `as` alone gives.
 impl From<EdgeKind> for u8 {
     ghost from_gives = { λ kind number. number ≡ kind_number kind };
 
@@ -27,7 +28,8 @@ impl From<EdgeKind> for u8 {
     }
 }
 
-// The count of the edges that enter a block where they are more than one.
+// The count of the edges that enter a block where they are more than one. Counts are bytes: an enum of none, one and more would ask a
+// narrower type of those who lend them.
 const MORE: u8 = 2;
 
 // An edge: its kind, and the word that it goes to.
@@ -90,7 +92,8 @@ pub fn edges_at(words: &[u32], i: usize) -> Edges
     }
 }
 
-// The edges that leave word i for another range: none where the next word starts none.
+// The edges that leave word i for another range: none where the next word starts none. A struct of words and marks would be made in
+// one place and read in one.
 #[tactic(auto, unfolding(basics::specs::Range::times))]
 fn exits_at(words: &[u32], marks: &[u8], i: usize) -> Edges
     requires { i < length words.now }
@@ -102,7 +105,8 @@ fn exits_at(words: &[u32], marks: &[u8], i: usize) -> Edges
     Edges::None
 }
 
-// Counts one edge to a word, where it is inside; past the second none is counted.
+// Counts one edge to a word, where it is inside; past the second none is counted. (By `get_mut` no proof: std says nothing of the
+// slice behind it.)
 fn enter(counts: &mut [u8], to: usize)
     ensures { counts.new ≡ set counts.old to (one_more (get_or counts.old to 0)) }
 {

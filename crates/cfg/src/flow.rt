@@ -1,4 +1,6 @@
 // Where a word leads: its flow and its jump target.
+// The contracts speak of every function with these words: a ghost field would fix one, which each caller would have to name. Words and the
+// index of one stay two parameters here and beside: the index goes on, the words stay.
 ghost use Rattle.std.specs.Prelude.{◌≡◌};
 ghost use Rattle.lua51_instruction.specs.Word.{field_opcode, row_of};
 ghost use Rattle.lua51_instruction.specs.Instruction.{flow_meant};
@@ -15,7 +17,7 @@ pub fn flow_of(word: u32) -> Flow
     instruction::flow_of(opcode_of(word))
 }
 
-// The word that the jump at word i leads to; the word count in place of one outside.
+// The word that the jump at word i leads to; the word count in place of one outside, as the definition's `target`.
 pub fn landing(words: &[u32], i: usize) -> usize
     ensures { (p : Proto) → p.words ≡ words.now → result ≡ target p i }
 {

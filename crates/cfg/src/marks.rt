@@ -1,4 +1,5 @@
 // Leaders: the words at which a function's ranges start, as marks in an array.
+// The contracts speak of every function with these words: a ghost field would fix one, which each caller would have to name.
 ghost use Rattle.std.specs.Prelude.{◌≡◌, ◌<◌, eqb, length, get_or, set};
 ghost use Rattle.lua51_instruction.specs.Proto.{Proto, flow_at};
 ghost use Rattle.cfg.specs.Graph.{claims};
@@ -10,7 +11,7 @@ use crate::flow::{flow_of, landing};
 use basics::slices::at_or;
 use lua51_instruction::instruction::{Flow, c_of};
 
-// The mark of a word; every other word has 0.
+// The mark of a word; every other word has 0. Marks are bytes: `bool` would ask a narrower type of those who lend or read them.
 const MARKED: u8 = 1;
 
 // The leaders that a word makes.
@@ -37,7 +38,7 @@ fn claims_at(words: &[u32], i: usize) -> Claims
     }
 }
 
-// Marks word j, where it is inside. (By `get_mut` it got no proof: std says nothing of the slice behind it.)
+// Marks word j, where it is inside. (By `get_mut` no proof: std says nothing of the slice behind it.)
 pub fn put_mark(marks: &mut [u8], j: usize)
     ensures { marks.new ≡ set marks.old j 1 }
 {

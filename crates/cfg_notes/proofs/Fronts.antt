@@ -5,17 +5,19 @@ use native.Mathlib.Numerals.{add-one}
 use native.Mathlib.Decide.{ℕ_discrete}
 use mathlib.Core.Bool.{Bool, true, false, not, cond, ◌&&◌}
 use mathlib.Core.List.{List}
-use mathlib.Core.Path.{◌≡◌, refl, sym}
+use mathlib.Core.Path.{◌≡◌, refl, sym, ap}
 use lib.Dec.{eqb}
-use lib.ListN.{length, get_or, set}
-use lib.Seq.{get_or-set_same, get_or-set_other}
+use lib.ListN.{set}
 use borrow.Author.Tests.{eq-eqb, ne_eqb, eqb-true}
+use Rattle.basics.proofs.Range.{over_set, over_same}
 use Rattle.basics.proofs.Tests.{and_left, and_right, clash, either_way}
 use Rattle.lua51_instruction.specs.Word.{TESTSET, number_of}
 use Rattle.lua51_instruction.specs.Proto.{Proto, opcode, is}
 use Rattle.cfg.specs.Graph.{is_loop, then_of, diverted}
 use Rattle.cfg.proofs.Entering.{loop_cases}
-use Rattle.cfg_notes.specs.Notes.{fronted, front_among}
+use Rattle.cfg_notes.specs.Notes.{fronted, front_among, notes_by, no_note, note_in}
+use Rattle.cfg_notes.specs.declared.notes.Note.{Note}
+use Rattle.basics.proofs.Tables.{rows_at}
 
 module _ (p : Proto) where
   -- ------------------------------------------------------------ which words
@@ -30,25 +32,42 @@ module _ (p : Proto) where
   pub loop_fronted : (i : ℕ) (d : Bool) → is_loop p i ≡ true → d ≡ diverted p i → fronted p i ≡ not d
   loop_fronted i d loop h = rw (unset i loop, loop, h)
 
-  pub none_fronted : (i : ℕ) → (opcode p i ≡ number_of TESTSET → ⊥) → is_loop p i ≡ false → fronted p i ≡ false
-  none_fronted i other none = rw (ne_eqb (opcode p i) (number_of TESTSET) other, none)
-
   -- ------------------------------------------------------------ one word more
 
-  pub front_first : (t : ℕ) → front_among p t 0 ≡ 0
+  among_here : (k t : ℕ) → fronted p k ≡ true → then_of p k ≡ t → front_among p t (k + 1) ≡ k + 1
   unfolding front_among
-  front_first t = refl
+  among_here k t y e = rw (add-one k, y, eq-eqb (then_of p k) t e)
 
-  pub front_turn : (a : List ℕ) (k t : ℕ) → t < length a → get_or a t 0 ≡ front_among p t k
-      → get_or (cond (fronted p k) (set a (then_of p k) (k + 1)) a) t 0 ≡ front_among p t (k + 1)
+  among_other : (k t : ℕ) → fronted p k && eqb (then_of p k) t ≡ false → front_among p t k ≡ front_among p t (k + 1)
   unfolding front_among
-  front_turn a k t inside old = rw (add-one k) (either_way (fronted p k)
-      (λ y. rw y (go (ℕ_discrete t (then_of p k))))
-      (λ n. rw n old))
-    where
-      go : Dec (t ≡ then_of p k) → get_or (set a (then_of p k) (suc k)) t 0 ≡ cond (eqb (then_of p k) t) (suc k) (front_among p t k)
-      go (yes e) = rw (eq-eqb (then_of p k) t (sym e), e, get_or-set_same a (then_of p k) (suc k) 0 (rw e at inside))
-      go (no d) = rw (ne_eqb (then_of p k) t (λ e. d (sym e)), get_or-set_other a (then_of p k) t (suc k) 0 d) old
+  among_other k t h = rw (add-one k, h)
+
+  module _ (starts betweens : ℕ → ℕ) (n k : ℕ) where
+    -- the fronts of the first m words beside what else is noted
+    abbrev row : ℕ → ℕ → Note
+    row m t = record { start = starts t; between = betweens t; front = front_among p t m }
+
+    abbrev rows : ℕ → List Note
+    rows m = notes_by starts betweens (λ t. front_among p t m) n
+
+    abbrev put : Note
+    put = record (note_in (rows k) (then_of p k)) { front = k + 1 }
+
+    put_here : fronted p k ≡ true → then_of p k < n → put ≡ row (k + 1) (0 + then_of p k)
+    put_here y lt =
+        let was = rows_at (row k) no_note n (then_of p k) lt in
+        let same : then_of p k ≡ 0 + then_of p k = omega arith in
+        rw (← same) (λ i. record { start = (was i).start; between = (was i).between; front = sym (among_here k (then_of p k) y refl) i })
+
+    kept : (t : ℕ) → fronted p k && eqb (then_of p k) t ≡ false → row k t ≡ row (k + 1) t
+    kept t h = ap {B = Note} (λ (v : ℕ). record { start = starts t; between = betweens t; front = v }) (among_other k t h)
+
+    pub front_turn : cond (fronted p k) (set (rows k) (then_of p k) put) (rows k) ≡ rows (k + 1)
+    front_turn = either_way (fronted p k)
+        (λ y. rw y (over_set (row k) (row (k + 1)) put 0 n (then_of p k)
+        (put_here y)
+        (λ j lt other. kept (0 + j) (rw (y, ne_eqb (then_of p k) (0 + j) (λ e. other (omega arith)))))))
+        (λ none. rw none (over_same (row k) (row (k + 1)) 0 n (λ j lt. kept (0 + j) (rw none))))
 
   -- ------------------------------------------------------------ what is noted
 

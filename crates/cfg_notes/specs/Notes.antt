@@ -1,9 +1,10 @@
--- What a printer needs of a function's graph, noted once at each word from 0 to n, in one array of three parts.
-use Rattle.std.specs.Prelude.{ℕ, zero, suc, ◌+◌, ◌/◌, Option, Some, None, Bool, not, cond, ◌&&◌, ◌||◌, List, ◌++◌, eqb, length, take, drop}
-use Rattle.basics.specs.Range.{table}
+-- What a printer needs of a function's graph, noted once at each word from 0 to n.
+use Rattle.std.specs.Prelude.{ℕ, zero, suc, ◌+◌, Option, Some, None, Bool, not, cond, ◌&&◌, ◌||◌, List, eqb, get_or}
+use Rattle.basics.specs.Range.{over, only}
 use Rattle.lua51_instruction.specs.Word.{TESTSET}
 use Rattle.lua51_instruction.specs.Proto.{Proto, size, is}
 use Rattle.cfg.specs.Graph.{leader, block_of, is_loop, then_of, diverted, between_of}
+use Rattle.cfg_notes.specs.declared.notes.Note.{Note}
 
 -- ------------------------------------------------------------ the notes of a word
 
@@ -32,24 +33,29 @@ front_note p t = front_among p t (size p)
 
 -- ------------------------------------------------------------ the array
 
--- the notes of a function: the blocks that start, the between blocks, the fronts, each at the words from 0 to n
-unfoldable pub notes_of : Proto → List ℕ
-notes_of p =
-    table (start_note p) (size p + 1)
-    ++ (table (between_note p) (size p + 1) ++ table (front_note p) (size p + 1))
+-- notes of n words by three functions that give what is noted at each: the block that starts, the between block, the front
+abbrev pub notes_by : (ℕ → ℕ) → (ℕ → ℕ) → (ℕ → ℕ) → ℕ → List Note
+notes_by starts betweens fronts n = over (λ j. only (record { start = starts j; between = betweens j; front = fronts j })) 0 n
 
--- the three parts of an array of notes, which are of one length
-abbrev pub third : List ℕ → ℕ
-third ns = length ns / 3
+-- nothing is noted at any word
+abbrev pub nothing : ℕ → ℕ
+nothing j = 0
 
-abbrev pub starts_in : List ℕ → List ℕ
-starts_in ns = take (third ns) ns
+-- the notes of a function, at the words from 0 to n
+unfoldable pub notes_of : Proto → List Note
+notes_of p = notes_by (start_note p) (between_note p) (front_note p) (size p + 1)
 
-abbrev pub betweens_in : List ℕ → List ℕ
-betweens_in ns = take (third ns) (drop (third ns) ns)
+-- the note of a word of which nothing is noted
+abbrev pub no_note : Note
+no_note = record { start = 0; between = 0; front = 0 }
 
-abbrev pub fronts_in : List ℕ → List ℕ
-fronts_in ns = take (third ns) (drop (third ns + third ns) ns)
+-- note j of some; behind the last nothing is noted
+abbrev pub note_in : List Note → ℕ → Note
+note_in ns j = get_or ns j no_note
+
+-- whether a block starts where the note stands
+abbrev pub starts_some : Note → Bool
+starts_some n = not (eqb n.start 0)
 
 -- the number that a note is; none where it is 0
 abbrev pub noted : ℕ → Option ℕ

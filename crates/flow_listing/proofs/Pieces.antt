@@ -24,7 +24,7 @@ use Rattle.judging.specs.Answers.{answer_of}
 use Rattle.judging.specs.declared.refusal.Refusal.{Refusal}
 use Rattle.judging.proofs.Acceptance.{accepted, accepted_count, accepted_whole}
 use Rattle.judging.proofs.Judging.{count_whole, few_functions}
-use Rattle.judging.proofs.Refusals.{refused}
+use Rattle.judging.proofs.Refusals.{refused, line_length}
 use Rattle.std.proofs.Common.{Result, Ok, Err}
 use Rattle.block_lines.specs.Lines.{run_numbers}
 use Rattle.listing.specs.Printed.{Lists}
@@ -159,24 +159,6 @@ module _ (o o' bytes : List ℕ) (r : ℕ) (e : output o' r ≡ puts (output o 0
       let within : r ≤ length o' = omega arith in
       (rw left (take_at bytes (drop (length bytes) o) r (sym same)), (within, sym (length-take-le r o' within)))
 
--- ------------------------------------------------------------ an X line
-
--- a number has at most 20 digits
-digits_few : (k x : ℕ) (ds : List ℕ) → length (digits k x ds) ≤ k + length ds
-unfolding digits
-digits_few zero x ds = omega arith
-digits_few (suc k) x ds = go (ltb x 10) (digits_few k (x / 10) (digit (x % 10) ∷ ds))
-  where
-    go : (b : Bool) → length (digits k (x / 10) (digit (x % 10) ∷ ds)) ≤ k + suc (length ds)
-        → length (cond b (digit x ∷ ds) (digits k (x / 10) (digit (x % 10) ∷ ds))) ≤ suc k + length ds
-    go true h = omega arith
-    go false h = omega arith
-
-column_few : (x : ℕ) → length (column x) ≤ 27
-unfolding column decimal
-column_few x = simp (length-append, length-replicate) (omega (arith, digits_few 20 x []))
-
--- so an X line is short
+-- an X line fits the buffer
 pub line_short : (n f p : ℕ) → length (refusal_line n f p) ≤ buffer
-unfolding line flat_map
-line_short n f p = simp length-append (omega (arith, column_few n, column_few f, column_few p))
+line_short n f p = omega (arith, line_length n f p)

@@ -8,12 +8,13 @@ use crate::run::put_piece;
 use house_table::lua;
 use input::read_full;
 use judging::walk_and_judge;
-use lua51_deserializer::chunk::Functions;
+use lua51_deserializer::chunk::{Chunk, Functions};
 use lua51_lister::RUN_NUMBERS;
 use reading::PROGRAM_BUFFER;
 use std::io::Write;
 
-// One byte more than a chunk may have: the program sees that an input is too long.
+// One byte more than a chunk may have: the program sees that an input is too long. Its buffers are arrays, as nothing takes memory from the
+// heap.
 const MOST_INPUT: usize = 65537;
 
 // Reads an input s, judges it, and writes the pieces of its output (`pieces s` in crates/reading/specs/Program.antt) in order: turn k
@@ -32,10 +33,14 @@ fn main(rt: HostRuntime) {
     let s = &buf[..n];
     let mut functions = Functions::new();
     let judged = walk_and_judge(s, lua(), &mut functions);
+    let chunk = Chunk {
+        bytes: s,
+        functions: &functions,
+    };
     let mut out = [0u8; PROGRAM_BUFFER];
     let mut run = [0u32; RUN_NUMBERS];
     for k in 0.. {
-        let piece = put_piece(&mut out, s, judged, &functions, k, &mut run);
+        let piece = put_piece(&mut out, chunk, judged, k, &mut run);
         let m = piece.length;
         if rt.stdout().write_all(&out[..m]).is_err() {
             return;

@@ -1,4 +1,5 @@
 // The pieces of the listing program's output: the listings of a chunk's functions, or one line X (document 01, 'Printed lines').
+// Buffers are lent as slices that are long enough: an array's type would ask for just that length.
 ghost use Rattle.std.specs.Prelude.{◌≤◌, cond, true, [], ◌≡◌, ltb, length, take, get_or};
 ghost use Rattle.input.specs.Prefix.{IsPrefixLen};
 ghost use Rattle.judging.specs.Judge.{listing_of};
@@ -10,7 +11,7 @@ ghost use Rattle.flow_listing.specs.Run.{Listable, line_of, Reached, After};
 use house_table::lua;
 use judging::refusal::{Numbers, Refusal, put_refusal};
 use listing::function::put_function;
-use lua51_deserializer::chunk::Functions;
+use lua51_deserializer::chunk::Chunk;
 use reading::PROGRAM_BUFFER;
 
 // A piece that stands at the output's start: its length, and whether the run ends with it. Both are asked of every piece, the one to write
@@ -31,15 +32,15 @@ fn put_line(out: &mut [u8], refusal: Refusal) -> usize
 }
 
 // Prints the listing of function f, or the X line for 33 where it does not fit the buffer.
-fn put_next(out: &mut [u8], s: &[u8], functions: &Functions, f: u32, run: &mut [u32]) -> Piece
-    requires listable { Listable s.now functions.now f }
+fn put_next(out: &mut [u8], chunk: Chunk, f: u32, run: &mut [u32]) -> Piece
+    requires listable { Listable chunk.bytes.now chunk.functions.now f }
     requires buffer_in_bounds { buffer ≤ length out.old }
     requires run_numbers_in_bounds { run_numbers ≤ length run.old }
-    ensures out_after { take result.length out.new ≡ cond (ltb buffer (length (listing_of by_lua s.now f))) (refusal_line 33 f 0) (listing_of by_lua s.now f) }
+    ensures out_after { take result.length out.new ≡ cond (ltb buffer (length (listing_of by_lua chunk.entry.bytes.now f))) (refusal_line 33 f 0) (listing_of by_lua chunk.entry.bytes.now f) }
     ensures prefix_len { IsPrefixLen result.length out.new }
-    ensures last_value { result.last ≡ ltb buffer (length (listing_of by_lua s.now f)) }
+    ensures last_value { result.last ≡ ltb buffer (length (listing_of by_lua chunk.entry.bytes.now f)) }
 {
-    let length = put_function(out, s, *functions, f, lua(), false, run);
+    let length = put_function(out, chunk, f, lua(), false, run);
     if PROGRAM_BUFFER < length {
         return Piece {
             length: put_line(out, Refusal::OutputShort(f)),
@@ -56,18 +57,17 @@ fn put_next(out: &mut [u8], s: &[u8], functions: &Functions, f: u32, run: &mut [
 // is lent for its statements.
 pub fn put_piece(
     out: &mut [u8],
-    s: &[u8],
+    chunk: Chunk,
     judged: Result<usize, Refusal>,
-    functions: &Functions,
     k: usize,
     run: &mut [u32],
 ) -> Piece
-    requires reached { Reached s.now judged functions.now k }
+    requires reached { Reached chunk.bytes.now judged chunk.functions.now k }
     requires buffer_in_bounds { buffer ≤ length out.old }
     requires run_numbers_in_bounds { run_numbers ≤ length run.old }
-    ensures out_after { take result.length out.new ≡ get_or (pieces s.now) k [] }
+    ensures out_after { take result.length out.new ≡ get_or (pieces chunk.entry.bytes.now) k [] }
     ensures prefix_len { IsPrefixLen result.length out.new }
-    ensures after { After s.now judged functions.now k result.last }
+    ensures after { After chunk.entry.bytes.now judged chunk.entry.functions.now k result.last }
 {
     match judged {
         Err(refusal) => Piece {
@@ -81,7 +81,8 @@ pub fn put_piece(
                     last: true,
                 };
             }
-            put_next(out, s, functions, k as u32, run)
+            // below the count, as every number of a function: `try_from` would ask for an answer that is never given
+            put_next(out, chunk, k as u32, run)
         }
     }
 }

@@ -1,5 +1,5 @@
--- Numbers in bytes are refused where the numbers are; and the loops over the lines. Assumes nothing.
-use Prim.Native.Nat.{ℕ, zero, suc, ◌+◌, ◌-◌, ◌<◌, ◌≤◌}
+-- Numbers in bytes are refused where the numbers are; and the verdict on one line. Assumes nothing.
+use Prim.Native.Nat.{ℕ, zero, suc, ◌+◌, ◌<◌, ◌≤◌}
 use native.Mathlib.Omega.{arith}
 use native.Mathlib.Decide.{dec_lt, ℕ_discrete}
 use mathlib.Core.Bool.{Bool, true, false, not, cond}
@@ -15,7 +15,6 @@ use Rattle.basics.specs.Range.{only, over, times, table as filled}
 use Rattle.basics.proofs.Tables.{table_at as filled_at}
 use Rattle.house_table.specs.House.{opcode_count, highest_opcode}
 use Rattle.lua51_lifter.specs.Check.{Verdict, fine, wrong, first_refusal}
-use Rattle.lua51_lifter.proofs.Verdicts.{first_turn}
 use Rattle.house_loading.specs.Loading.{table_line, number_said, says_none, table_of, repeated, form_verdict, number_verdict, load_verdict, table_length}
 use Rattle.house_loading.specs.TableVerdict.{in_byte, table_bytes}
 
@@ -81,14 +80,7 @@ bytes_verdict s =
     let z : 0 + i ≡ i = omega arith in
     rw z (verdict_byte (λ j. number_said (table_line s j)) i lt))
 
--- ------------------------------------------------------------ a loop over the lines
-
-module _ (f : ℕ → Verdict) (n i : ℕ) where
-  pub first_refused : (k p : ℕ) → i < n → f i ≡ wrong k p → first_refusal f i (n - i) ≡ wrong k p
-  first_refused k p h e = first_turn f n i h ∙ rw e
-
-  pub first_passed : i < n → f i ≡ fine → first_refusal f i (n - i) ≡ first_refusal f (i + 1) (n - (i + 1))
-  first_passed h e = first_turn f n i h ∙ rw e
+-- ------------------------------------------------------------ one line, one number
 
 -- what one line is found to be
 pub says_none_is : (r : Option ℕ) {n : Numeral} (b : Bool) → numeral_of r ≡ n → is_some r ≡ not b → says_none n ≡ b

@@ -5,12 +5,13 @@ use native.Mathlib.Omega.{arith}
 use native.Mathlib.Numerals.{add-one}
 use native.Mathlib.Decide.{ℕ_discrete}
 use mathlib.Core.Bool.{cond}
-use mathlib.Core.List.{List, [], ◌∷◌}
+use mathlib.Core.List.{List, [], ◌∷◌, ◌++◌}
 use mathlib.Core.Path.{◌≡◌, refl, sym, ap, ◌∙◌}
 use lib.Dec.{ltb, eqb}
-use lib.ListN.{length, get_or, drop, set, length-set, drop_of_length-le}
+use lib.ListN.{length, get_or, take, drop, set, length-set, length-take, drop_of_length-le}
 use lib.Seq.{drop-cons, get_or-set_same, get_or-set_other}
 use borrow.Author.Tests.{le-ltb, ltb-false, eq-eqb, ne_eqb}
+use Rattle.std.proofs.lemmas.List.{length_push, get_or_push, get_or-take, take_more, append_cancel_right}
 use Rattle.basics.specs.Range.{table as filled}
 use Rattle.basics.proofs.Range.{over_same}
 use Rattle.basics.proofs.Tables.{tabled, table_at, table_length}
@@ -19,6 +20,18 @@ use Rattle.lua51_instruction.specs.Word.{field_opcode}
 use Rattle.house_table.specs.House.{opcode_count, number_count, position_of, opcode_back, word_back, inverse_of, word_by}
 
 -- ------------------------------------------------------------ the inverse, line by line
+
+-- the last of the lines that are left, and those before it
+pub last_left : (table left : List ℕ) (x : ℕ) {left' : List ℕ} → left ≡ left' ++ (x ∷ []) → left ≡ take (length left) table
+    → (left' ≡ take (length left') table) × (x ≡ get_or table (length left') 0) × (length left ≡ length left' + 1) × (length left ≤ length table)
+last_left table left x {left'} e t =
+    let i = length left' in
+    let one : length left ≡ i + 1 = ap length e ∙ length_push left' x in
+    let few : length left ≤ length table = omega (arith, ap length t ∙ length-take (length left) table) in
+    let same : left' ++ (x ∷ []) ≡ take (i + 1) table = sym e ∙ t ∙ ap (λ n. take n table) one in
+    let last : x ≡ get_or table i 0 = sym (get_or_push left' x 0 i refl) ∙ ap (λ (l : List ℕ). get_or l i 0) same ∙ get_or-take (i + 1) table i 0 (omega arith) in
+    let both : left' ++ (x ∷ []) ≡ take i table ++ (x ∷ []) = same ∙ take_more table i 0 (omega arith) ∙ ap (λ y. take i table ++ (y ∷ [])) (sym last) in
+    (append_cancel_right left' (take i table) (x ∷ []) both, last, one, few)
 
 -- Lua's opcode for the number o, by the lines from i on alone
 abbrev pub found_from : List ℕ → ℕ → ℕ → ℕ
@@ -103,7 +116,7 @@ by_inverse table few = λ i w. each w i
         rw (at, narrow)
 
 -- a word by the inverse at its opcode
-pub by_opcode : (inverse : List ℕ) (w : ℕ) {b v : ℕ} → b ≡ get_or inverse (w % number_count) 0 → v ≡ b
-    → w - w % number_count + v % number_count ≡ word_by inverse w
+pub by_opcode : (inverse : List ℕ) (w b : ℕ) {n o : ℕ} → n ≡ field_opcode w → b ≡ get_or inverse (field_opcode w) 0 → o ≡ field_opcode b
+    → w - n + o ≡ word_by inverse w
 unfolding word_by
-by_opcode inverse w e q = let low : field_opcode w ≡ w % number_count = omega arith in rw (low, q, e)
+by_opcode inverse w b e q r = let low : field_opcode b ≡ b % number_count = omega arith in rw (e, r, low, q)

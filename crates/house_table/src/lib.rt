@@ -5,14 +5,14 @@ ghost use Rattle.std.specs.Prelude.{◌≡◌};
 ghost use Rattle.house_table.specs.House.{lua, inverse_of, word_by};
 
 use basics::slices::at_or;
-
-// How many opcodes Lua 5.1 has, and so how many numbers a table has.
-pub const OPCODES: usize = 38;
+use lua51_instruction::instruction::opcode_of;
+pub use lua51_instruction::instruction::OPCODES; // how many numbers a table has
 
 // How many numbers the 6 bits of an opcode have.
 pub const NUMBERS: usize = 64;
 
-// The numbers before any line of a table is known: those to 37 are no opcode's, and those above stay.
+// The numbers before any line of a table is known: those to 37 are no opcode's, and those above stay. What is no
+// opcode's is the byte 38, and no Option, since it is put back into a word.
 const NO_OPCODES: [u8; NUMBERS] = [
     38, 38, 38, 38, 38, 38, 38, 38, 38, 38, 38, 38, 38, 38, 38, 38, 38, 38, 38, 38, 38, 38, 38, 38,
     38, 38, 38, 38, 38, 38, 38, 38, 38, 38, 38, 38, 38, 38, 38, 39, 40, 41, 42, 43, 44, 45, 46, 47,
@@ -30,13 +30,13 @@ pub fn lua() -> [u8; OPCODES]
 }
 
 // For each number that a file may use, Lua's opcode. The lines are gone through from the last, so that of two with one number the first
-// counts; whatever numbers the table has.
+// counts; whatever numbers the table has. A line's position is cast to a byte: `try_from` would have a case that cannot come.
 pub fn inverse_of(table: [u8; OPCODES]) -> [u8; NUMBERS]
     ensures { result ≡ inverse_of table }
 {
     let mut inverse = NO_OPCODES;
-    for i in (0..OPCODES).rev() {
-        let number = usize::from(table[i]);
+    for (i, number) in table.iter().enumerate().rev() {
+        let number = usize::from(*number);
         if number < OPCODES {
             inverse[number] = i as u8;
         }
@@ -44,11 +44,11 @@ pub fn inverse_of(table: [u8; OPCODES]) -> [u8; NUMBERS]
     inverse
 }
 
-// A word with its opcode put back, by the inverse of a table.
+// A word with its opcode put back, by the inverse of a table; as far as an opcode's bits hold it.
 pub fn word_back(inverse: &[u8], word: u32) -> u32
     ensures { result ≡ word_by inverse.now word }
 {
-    let number = word % (NUMBERS as u32);
-    let opcode = u32::from(at_or(inverse, number as usize, 0)) % (NUMBERS as u32);
-    word - number + opcode
+    let number = opcode_of(word);
+    let opcode = opcode_of(u32::from(at_or(inverse, usize::from(number), 0)));
+    word - u32::from(number) + u32::from(opcode)
 }

@@ -4,7 +4,9 @@ use mathlib.Core.List.{List}
 use Prim.Native.Nat.{ℕ, suc, ◌+◌, ◌-◌, ◌*◌, ◌≤◌, ◌<◌}
 use native.Mathlib.Omega.{arith}
 use lib.ListN.{length, take}
-use Rattle.std.proofs.Common.{Ok}
+use Prim.{Unit}
+use Rattle.std.specs.Prelude.{Result, Ok, Err}
+use Rattle.std.specs.Result.{MatchResult, IsErrAnd}
 use Rattle.lua51_instruction.specs.Proto.{reworded}
 use Rattle.house_table.specs.House.{opcode_count, inverse_of, word_back, word_by}
 use Rattle.house_table.proofs.Inverse.{by_inverse}
@@ -18,11 +20,14 @@ use Rattle.lua51_deserializer.proofs.Places.{places_length}
 use Rattle.lua51_function.proofs.Buffers.{filled_length}
 use Rattle.lua51_function.proofs.WholeChunk.{whole_chunk}
 use Rattle.lua51_function.proofs.WholeFunction.{holds_each}
-use Rattle.lua51_lifter.specs.Check.{fine, wrong, check}
-use Rattle.judging.specs.Judge.{Answer, given, refusal, judged, judge_from, judge_read, judge}
+use Rattle.lua51_lifter.specs.Check.{check}
+use Rattle.lua51_lifter.specs.Verdict.{verdict_of}
+use Rattle.lua51_lifter.specs.declared.verdict.FunctionFault.{FunctionFault}
+use Rattle.judging.specs.Judge.{Answer, given, judged, judge_from, judge_read, judge}
 use Rattle.judging.specs.Refusal.{refusal_of}
 use Rattle.judging.specs.Answers.{Whole, Fits}
-use Rattle.judging.specs.declared.refusal.Refusal.TheVariants.{Chunk}
+use Rattle.judging.specs.declared.refusal.Refusal.{Refusal}
+use Rattle.judging.specs.declared.refusal.Refusal.TheVariants.{Chunk, Function}
 
 -- ------------------------------------------------------------ a chunk that was read whole
 
@@ -81,11 +86,18 @@ module _ (back : ℕ → ℕ) (s : List ℕ) (ps : List Place) (n f : ℕ) (belo
   unfolding judge_from
   judge_turn = let m : n - f ≡ suc (n - (f + 1)) = omega arith in rw m
 
-  pub function_refused : (m p : ℕ) → wrong m p ≡ check (reworded back (proto_at s ps f)) → refusal m f p ≡ judge_from back s ps f (n - f)
-  function_refused m p e = sym (judge_turn ∙ rw (← e))
+  -- q is what is found of function f, with a fault as a refusal of f
+  module _ {Q : FunctionFault → Refusal → Type 0} (same : (fault : FunctionFault) (x : Refusal) → Q fault x → x ≡ Function f fault)
+      {q : Result (Unit {0}) Refusal} where
+    pub turn_refused : (x : Refusal) → q ≡ Err x → (r : Result (Unit {0}) FunctionFault) → verdict_of r ≡ check (reworded back (proto_at s ps f))
+        → MatchResult r (λ u. q ≡ Ok u) (λ fault. IsErrAnd q (Q fault)) → refusal_of x ≡ judge_from back s ps f (n - f)
+    turn_refused x h (Ok u) e m = let z : ⊥ = cc in absurd z
+    turn_refused x h (Err fault) e m = let y = same fault x (rw h at m) in rw y (sym (judge_turn ∙ rw (← e)))
 
-  pub function_passed : fine ≡ check (reworded back (proto_at s ps f)) → rest ≡ judge_from back s ps f (n - f)
-  function_passed e = sym (judge_turn ∙ rw (← e))
+    pub turn_passed : (t : Unit {0}) → q ≡ Ok t → (r : Result (Unit {0}) FunctionFault) → verdict_of r ≡ check (reworded back (proto_at s ps f))
+        → MatchResult r (λ u. q ≡ Ok u) (λ fault. IsErrAnd q (Q fault)) → rest ≡ judge_from back s ps f (n - f)
+    turn_passed t h (Ok u) e m = sym (judge_turn ∙ rw (← e))
+    turn_passed t h (Err fault) e m = absurd (rw h at m)
 
 -- no function is left
 pub functions_passed : (back : ℕ → ℕ) (s : List ℕ) (ps : List Place) (n f : ℕ) → n ≤ f → judge_from back s ps f (n - f) ≡ given (length ps)

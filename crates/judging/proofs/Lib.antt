@@ -1,4 +1,5 @@
 pub mod Acceptance
 pub mod Judging
 pub mod Refusals
+pub mod Since
 pub mod House

@@ -15,7 +15,7 @@ use lua51_deserializer::fields::ChunkFault;
 use lua51_lifter::verdict::FunctionFault;
 
 // Why a call is refused.
-#[derive(Clone, Copy)]
+#[derive(Clone, Copy, PartialEq, Eq, Debug)]
 pub enum Refusal {
     // From the input.
     // 1 to 6: what is wrong with the chunk's bytes.
@@ -49,8 +49,8 @@ impl From<TableFault> for Refusal {
     }
 }
 
-// The numbers of a refusal.
-#[derive(Clone, Copy)]
+// The numbers of a refusal, of which C's answer and the X line are made.
+#[derive(Clone, Copy, PartialEq, Eq, Debug)]
 pub struct Numbers {
     pub number: usize,
     pub function: usize,
@@ -66,6 +66,8 @@ fn refused_at(number: usize, function: usize, place: usize) -> Numbers
         place,
     }
 }
+
+// Three matches, no plainer as one: each kind of fault has its numbers here alone, each beside the variant that names it.
 
 // 1 to 6.
 fn chunk_numbers(fault: ChunkFault) -> Numbers
@@ -113,6 +115,7 @@ impl From<Refusal> for Numbers {
     ghost from_gives = { λ refused numbers. refusal_by numbers ≡ refusal_of refused };
 
     fn from(refused: Refusal) -> Numbers {
+        // No plainer: Rust has no `From` of a u32 for a usize, and `try_from` has an error that cannot come
         match refused {
             Refusal::Chunk(fault) => chunk_numbers(fault),
             Refusal::Function(f, fault) => function_numbers(f as usize, fault),
@@ -124,7 +127,7 @@ impl From<Refusal> for Numbers {
     }
 }
 
-// Prints the X line of a refusal from a place on, and gives the place behind it.
+// Prints the X line of a refusal from a place on, and gives the place behind it. Bytes and a place, and no `Output`: so C lends them.
 pub fn put_refusal(out: &mut [u8], at: usize, refused: Numbers) -> usize
     ensures { output out.new result ≡ puts (output out.old at) (refusal_line refused.number refused.function refused.place) }
 {

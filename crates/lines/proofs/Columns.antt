@@ -77,11 +77,3 @@ column_cells n a b c d e f h ea eb ec ed ee ef =
     let pe : lead 2 e ≡ lead 1 f ++ (cell e ∷ []) = rw ef (lead_step 1 e (omega arith)) in
     let pf : lead 1 f ≡ cell f ∷ [] = lead_step 0 f (omega arith) ∙ rw none refl in
     sym (p ∙ rw (pa, pb, pc, pd, pe, pf) refl)
-
--- of a byte, four blanks, two cells and a digit
-pub column_byte : (n a b : ℕ) → n < 256 → a ≡ n / 10 → b ≡ a / 10
-    → (blank ∷ blank ∷ blank ∷ blank ∷ cell b ∷ cell a ∷ digit (n % 10) ∷ []) ≡ column n
-unfolding cell
-column_byte n a b h ea eb =
-    let none : 0 ≡ b / 10 = omega arith in
-    column_cells n a b 0 0 0 0 (omega arith) ea eb none refl refl refl

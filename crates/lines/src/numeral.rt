@@ -3,12 +3,9 @@ ghost use Rattle.std.specs.Prelude.{◌-◌, ◌≤◌, ◌≡◌, ◌==◌, not
 ghost use Rattle.lines.specs.Line.{blank, digit, width};
 ghost use Rattle.lines.specs.Numeral.{numeral_of, is_digit, digits_say, column_says, line_says};
 
-use crate::{COLUMNS, LINE_FEED};
+use crate::{BLANK, COLUMNS, DIGIT_ZERO, LINE_FEED};
 
-const BLANK: u8 = crate::BLANK as u8;
-
-const DIGIT_ZERO: u8 = crate::DIGIT_ZERO as u8;
-
+// The base of the digits that are printed, in the type of what they say: a constant cannot call `from`.
 const BASE: u32 = crate::BASE as u32;
 
 // A line of one number: 7 columns and a line feed.
@@ -24,7 +21,7 @@ fn digit_value(b: u8) -> Option<u32>
     Some(u32::from(b - DIGIT_ZERO))
 }
 
-// What digits say; 7 of them, the most in a line, are below 2 to the 32nd.
+// What digits say; 7 of them, the most in a line, are below 2 to the 32nd. By hand: `parse` takes a `&str`, and a plus.
 fn number_of(digits: &[u8]) -> Option<u32>
     requires { length digits.now ≤ width }
     ensures { numeral_of result ≡ digits_say 0 digits.now }

@@ -4,7 +4,7 @@ use native.Mathlib.Omega.{arith}
 use mathlib.Core.Bool.{Bool, true, false, cond}
 use mathlib.Core.List.{List, [], ◌∷◌, ◌++◌, append_assoc, append-nil, flat_map}
 use mathlib.Core.Path.{◌≡◌, refl, ◌∙◌, sym}
-use lib.ListN.{length, get_or}
+use lib.ListN.{length}
 use Rattle.std.specs.Prelude.{Option, Some, None, is_some}
 use Rattle.lines.specs.Out.{Puts}
 use Rattle.lines.specs.declared.Output.{Output}
@@ -13,7 +13,8 @@ use Rattle.basics.specs.Range.{over, only}
 use Rattle.basics.proofs.Range.{over_split, chosen_length}
 use Rattle.lua51_instruction.specs.Proto.{Proto, size}
 use Rattle.cfg.specs.Graph.{leader, block_of, entry_of, between_of, diverted}
-use Rattle.cfg_notes.specs.Notes.{notes_of, noted, starts_in}
+use Rattle.cfg_notes.specs.Notes.{notes_of, note_in, noted}
+use Rattle.cfg_notes.specs.declared.notes.Note.{Note}
 use Rattle.cfg_notes.proofs.Parts.{start_said}
 use Rattle.cfg_notes.proofs.Numbering.{block_next, block_first, between_next, between_first}
 use Rattle.lua51_lifter.specs.Blocks.{Block, code_block, entry_block, between_block, blocks, Named, naming, graph}
@@ -37,7 +38,7 @@ module _ (f : ℕ → List ℕ) where
   range_turn i p q = puts_equal (range_more i) (puts_then p q)
 
 -- a note is read where a block starts
-pub start_read : (p : Proto) (ns : List ℕ) → ns ≡ notes_of p → (j : ℕ) → j ≤ size p → {o : Option ℕ} → o ≡ noted (get_or (starts_in ns) j 0)
+pub start_read : (p : Proto) (ns : List Note) → ns ≡ notes_of p → (j : ℕ) → j ≤ size p → {o : Option ℕ} → o ≡ noted (note_in ns j).start
     → is_some o ≡ leader p j
 start_read p ns e j le read = rw (read, start_said p ns e j le) (by_test (leader p j))
   where

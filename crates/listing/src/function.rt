@@ -1,4 +1,5 @@
 // The listing of one function of a chunk.
+// The contracts speak of every function that is described so: a ghost field would fix one, which each caller would have to name.
 ghost use Rattle.std.specs.Prelude.{ℕ, ◌+◌, ◌*◌, ◌≤◌, ◌<◌, true, List, ◌≡◌, length};
 ghost use Rattle.lines.specs.Out.{output, Puts, PrintsOn};
 ghost use Rattle.lua51_instruction.specs.Proto.{Proto, size, reworded};
@@ -15,19 +16,20 @@ ghost use Rattle.listing.specs.Printed.{printed, Leaves, Lists};
 
 use crate::blocks::put_blocks;
 use block_lines::blocks::Drawn;
-use cfg_notes::notes::{FEW_NOTES, MOST_NOTES, PARTS, note_graph};
+use cfg_notes::notes::{NO_NOTE, Note, note_graph};
 use house_table::{OPCODES, inverse_of};
 use lines::Output;
 use lua51_constants::{put_constant_lines, put_function_line};
-use lua51_deserializer::chunk::Functions;
+use lua51_deserializer::chunk::Chunk;
 use lua51_function::function::{
-    FEW_WORDS, Loaded, MOST_NESTED, MOST_WORDS, View, function_at, word_count,
+    FEW_MARKS, FEW_WORDS, Loaded, MOST_MARKS, MOST_NESTED, MOST_WORDS, View, function_at,
+    word_count,
 };
 
 // Prints the listing of a function that is loaded, by what is drawn of it.
 fn put_loaded(out: &mut Output, s: &[u8], loaded: Loaded, run: &mut [u32], drawn: &Drawn)
     ensures result_after { (p : Proto) (vs : List Value) → Draws p drawn.now → run_numbers ≤ length run.old
-        → AreRead s.now (places_from s.now loaded.first loaded.constants) vs
+        → AreRead s.now (places_from s.now loaded.entry.first loaded.entry.constants) vs
         → Puts out.old out.new (listing p vs) }
     ensures anyway { PrintsOn out.old out.new }
 {
@@ -40,7 +42,7 @@ fn put_loaded(out: &mut Output, s: &[u8], loaded: Loaded, run: &mut [u32], drawn
 // printing it into an empty output.
 fn put_whole(out: &mut [u8], s: &[u8], loaded: Loaded, run: &mut [u32], drawn: &Drawn) -> usize
     ensures result_after { (p : Proto) (vs : List Value) → Draws p drawn.now → run_numbers ≤ length run.old
-        → AreRead s.now (places_from s.now loaded.first loaded.constants) vs
+        → AreRead s.now (places_from s.now loaded.entry.first loaded.entry.constants) vs
         → output out.new result ≡ printed true out.old (listing p vs) }
     ensures anyway { Leaves true out.old out.new result }
 {
@@ -64,19 +66,18 @@ fn put_listing(
     loaded: Loaded,
     whole: bool,
     function: &View,
-    lines: &[u8],
     run: &mut [u32],
-    notes: &mut [u16],
+    notes: &mut [Note],
 ) -> usize
-    ensures result_after { (p : Proto) (vs : List Value) → Held p function.now lines.now → run_numbers ≤ length run.old → length notes.old ≡ 3 * (size p + 1)
-        → AreRead s.now (places_from s.now loaded.first loaded.constants) vs
+    ensures result_after { (p : Proto) (vs : List Value) → Held p function.now loaded.entry.lines.now → run_numbers ≤ length run.old → length notes.old ≡ size p + 1
+        → AreRead s.now (places_from s.now loaded.entry.first loaded.entry.constants) vs
         → output out.new result ≡ printed whole out.old (listing p vs) }
     ensures anyway { Leaves whole out.old out.new result }
 {
     note_graph(function.words, notes);
     let drawn = Drawn {
         function: *function,
-        lines,
+        lines: loaded.lines,
         notes,
     };
     if whole {
@@ -87,102 +88,62 @@ fn put_listing(
     printed.at
 }
 
-// Prints the listing of function f of a chunk from the output's start, its words put back by the inverse of a table. The room for its words
-// and for the notes of its graph is lent.
-fn put_in(
+// Prints the listing of function f of a chunk from the output's start, its words put back by the inverse of a table, in room for at most
+// WORDS words and for the notes at these and behind the last, which are MARKS: a const argument is not computed.
+fn put_with<const WORDS: usize, const MARKS: usize>(
     out: &mut [u8],
-    s: &[u8],
-    functions: Functions,
-    f: u32,
-    inverse: &[u8],
-    whole: bool,
-    run: &mut [u32],
-    words: &mut [u32],
-    notes: &mut [u16],
-) -> usize
-    requires { 3 * (length words.old + 1) ≤ length notes.old }
-    ensures by_index { (end : ℕ) → walked (here end) (places_of functions) ≡ walk s.now → f < functions.count
-        → check (reworded (word_by inverse.now) (proto_at s.now (walk s.now).places f)) ≡ fine → run_numbers ≤ length run.old
-        → length (proto_at s.now (held_of functions) f).words ≤ length words.old
-        → output out.new result ≡ printed whole out.old (listing (reworded (word_by inverse.now) (proto_at s.now (walk s.now).places f)) (constants_at s.now (walk s.now).places f)) }
-    ensures anyway { Leaves whole out.old out.new result }
-{
-    let mut no_kinds = [0u8; 0];
-    let mut nested = [0u32; MOST_NESTED];
-    let mut nups = [0u8; MOST_NESTED];
-    let loaded = function_at(
-        s,
-        functions,
-        f,
-        inverse,
-        words,
-        &mut no_kinds,
-        &mut nested,
-        &mut nups,
-    );
-    let n = loaded.words;
-    let inner = loaded.nested;
-    let lines = loaded.lines;
-    let locals = loaded.locals;
-    let noted = PARTS * (n + 1);
-    let function = View {
-        head: loaded.head,
-        words: &words[..n],
-        nested: &nested[..inner],
-        nups: &nups[..inner],
-    };
-    put_listing(
-        out,
-        s,
-        loaded,
-        whole,
-        &function,
-        &s[lines..locals],
-        run,
-        &mut notes[..noted],
-    )
-}
-
-// Prints the listing of a function of at most WORDS words, in room for so many and for their NOTES notes.
-fn put_with<const WORDS: usize, const NOTES: usize>(
-    out: &mut [u8],
-    s: &[u8],
-    functions: Functions,
+    chunk: Chunk,
     f: u32,
     inverse: &[u8],
     whole: bool,
     run: &mut [u32],
 ) -> usize
     requires few { WORDS ≤ most_words }
-    requires notes { NOTES ≡ 3 * (WORDS + 1) }
-    requires words { (end : ℕ) → walked (here end) (places_of functions) ≡ walk s.now → f < functions.count
-        → length (proto_at s.now (held_of functions) f).words ≤ WORDS }
-    ensures { Lists (word_by inverse.now) s.now functions f whole run.old out.old out.new result }
+    requires marks { MARKS ≡ WORDS + 1 }
+    requires words { (end : ℕ) → walked (here end) (places_of chunk.functions.now) ≡ walk chunk.bytes.now → f < chunk.functions.now.count
+        → length (proto_at chunk.bytes.now (held_of chunk.functions.now) f).words ≤ WORDS }
+    ensures { Lists (word_by inverse.now) chunk.entry.bytes.now chunk.entry.functions.now f whole run.old out.old out.new result }
 {
     let mut words = [0u32; WORDS];
-    let mut notes = [0u16; NOTES];
-    put_in(
-        out, s, functions, f, inverse, whole, run, &mut words, &mut notes,
-    )
+    let mut nested = [0u32; MOST_NESTED];
+    let mut nups = [0u8; MOST_NESTED];
+    let loaded = function_at(
+        chunk,
+        f,
+        inverse,
+        &mut words,
+        &mut [],
+        &mut nested,
+        &mut nups,
+    );
+    let function = View {
+        head: loaded.head,
+        words: &words[..loaded.words],
+        nested: &nested[..loaded.nested],
+        nups: &nups[..loaded.nested],
+    };
+    let mut notes = [NO_NOTE; MARKS];
+    let noted = &mut notes[..loaded.words + 1];
+    put_listing(out, chunk.bytes, loaded, whole, &function, run, noted)
 }
 
 // Prints the listing of function f of a chunk under a house table from the output's start, and gives its length. Where `whole` is set, an
-// output that is shorter stays as it was; else it gets the listing's beginning: the flag is the definition's (`printed`). Its statements are written into the buffer `run` first; what
-// that holds afterwards is of no use. Room for the function's words is made by their count, so that a small function costs little.
+// output that is shorter stays as it was; else it gets the listing's beginning: the flag is the definition's (`printed`). Its statements
+// are written into the buffer `run` first; what that holds afterwards is of no use. Room for the function's words is made by their count,
+// so that a small function costs little.
 pub fn put_function(
     out: &mut [u8],
-    s: &[u8],
-    functions: Functions,
+    chunk: Chunk,
     f: u32,
     table: [u8; OPCODES],
     whole: bool,
     run: &mut [u32],
 ) -> usize
-    ensures { Lists (word_back table) s.now functions f whole run.old out.old out.new result }
+    ensures { Lists (word_back table) chunk.entry.bytes.now chunk.entry.functions.now f whole run.old out.old out.new result }
 {
     let inverse = inverse_of(table);
-    if word_count(s, functions, f) <= FEW_WORDS {
-        return put_with::<FEW_WORDS, FEW_NOTES>(out, s, functions, f, &inverse, whole, run);
+    if word_count(chunk, f) <= FEW_WORDS {
+        return put_with::<FEW_WORDS, FEW_MARKS>(out, chunk, f, &inverse, whole, run);
     }
-    put_with::<MOST_WORDS, MOST_NOTES>(out, s, functions, f, &inverse, whole, run)
+    put_with::<MOST_WORDS, MOST_MARKS>(out, chunk, f, &inverse, whole, run)
 }

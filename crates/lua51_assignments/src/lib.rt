@@ -1,5 +1,8 @@
 // The statements of the opcodes from MOVE to SELF, each by the operands of its word alone: assignments of registers, constants,
 // upvalues, globals and tables.
+//
+// Opcodes are numbers, for the reason that stands at `op`. k is the index of a statement in the list that defines those of its word, one
+// for each register of LOADNIL and two for SELF: a writer for each of the two would move the choice by k into the match on opcodes.
 #![tactic(auto)]
 
 ghost use Rattle.std.specs.Prelude.{ℕ, ◌≤◌, ◌<◌, length};
@@ -22,7 +25,7 @@ use lua51_runs::registers::set_register;
 fn get_table(run: &mut Run, w: Fields)
     ensures { Adds run.old run.new (ast.run (set_register w.a (index (register w.b) (rk w.c)))) }
 {
-    set_register(run, w.a as u32, &[INDEX, REGISTER, w.b as u32]);
+    set_register(run, u32::from(w.a), &[INDEX, REGISTER, u32::from(w.b)]);
     push_operand(run, w.c);
 }
 
@@ -30,7 +33,7 @@ fn get_table(run: &mut Run, w: Fields)
 fn set_table(run: &mut Run, w: Fields)
     ensures { Adds run.old run.new (ast.run (assign (one (index (register w.a) (rk w.b))) (one (rk w.c)))) }
 {
-    run.push_all(&[ASSIGN, 1, 1, INDEX, REGISTER, w.a as u32]);
+    run.push_all(&[ASSIGN, 1, 1, INDEX, REGISTER, u32::from(w.a)]);
     push_operand(run, w.b);
     push_operand(run, w.c);
 }
@@ -42,7 +45,7 @@ fn self_statement(run: &mut Run, w: Fields, k: u16)
     ensures anyway { Wrote run.old run.new }
 {
     if k == 0 {
-        return set_register(run, w.a as u32 + 1, &[REGISTER, w.b as u32]);
+        return set_register(run, u32::from(w.a) + 1, &[REGISTER, u32::from(w.b)]);
     }
     get_table(run, w);
 }
@@ -53,14 +56,14 @@ pub fn assignment(run: &mut Run, w: Fields, k: u16)
         → Adds run.old run.new (run_at (statements_by p i (op_of w.opcode)) k) }
     ensures anyway { Wrote run.old run.new }
 {
-    let a = w.a as u32;
-    let b = w.b as u32;
+    let a = u32::from(w.a);
+    let b = u32::from(w.b);
     let opcode = w.opcode;
     match opcode {
         op::MOVE => set_register(run, a, &[REGISTER, b]),
         op::LOADK => set_register(run, a, &[CONSTANT, w.bx]),
         op::LOADBOOL => set_register(run, a, &[BOOLEAN, b]),
-        op::LOADNIL => set_register(run, a + k as u32, &[NIL]),
+        op::LOADNIL => set_register(run, a + u32::from(k), &[NIL]),
         op::GETUPVAL => set_register(run, a, &[UPVALUE, b]),
         op::GETGLOBAL => set_register(run, a, &[GLOBAL, w.bx]),
         op::GETTABLE => get_table(run, w),

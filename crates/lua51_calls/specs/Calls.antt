@@ -1,5 +1,5 @@
 -- The values that a word takes, as parts of runs, and the statements of CALL and TFORLOOP.
-use Rattle.std.specs.Prelude.{ℕ, ◌+◌, ◌-◌, cond, List, ◌∷◌, eqb}
+use Rattle.std.specs.Prelude.{ℕ, ◌+◌, ◌-◌, cond, List, [], ◌∷◌, ◌++◌, eqb}
 use Rattle.lua51_instruction.specs.Word.{VARARG, number_of, field_opcode, field_a, field_b}
 use Rattle.lua51_instruction.specs.Proto.{Proto, arg_a, arg_c}
 use Rattle.ast.specs.Statement.{Expr, Exprs, register, nil, binary, op_unequal, call, vararg, select, []ᵉ, one, registers, count, exprs}
@@ -14,9 +14,13 @@ counted xs = count xs ∷ exprs xs
 abbrev pub below : ℕ → ℕ → List ℕ
 below slot opener = (opener - slot + 1) ∷ exprs (registers slot (opener - slot) []ᵉ)
 
+-- the numbers of a call of R(a), up to the values that it takes
+abbrev pub callee : ℕ → List ℕ
+callee a = 10 ∷ 1 ∷ a ∷ []
+
 -- the numbers of a call of R(a) with an open tail, up to that tail
 abbrev pub open_call_numbers : ℕ → ℕ → List ℕ
-open_call_numbers a opener = 10 ∷ 1 ∷ a ∷ below (a + 1) opener
+open_call_numbers a opener = callee a ++ below (a + 1) opener
 
 -- the open results of a word that takes none itself
 unfoldable pub results_alone : ℕ → Expr

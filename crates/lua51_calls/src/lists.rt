@@ -1,4 +1,4 @@
-// The statement of SETLIST.
+// The statement of SETLIST. Its parameters and its contract are in the form of `results`, for the reasons there.
 ghost use Rattle.std.specs.Prelude.{◌≡◌};
 ghost use Rattle.lua51_instruction.specs.Word.{SETLIST};
 ghost use Rattle.lua51_instruction.specs.Proto.{Proto};
@@ -26,7 +26,8 @@ pub fn set_list(run: &mut Run, words: &[u32], i: usize)
     }
     let j = i.saturating_sub(1);
     let opener = a_of(at_or(words, j, 0));
-    push_list(run, a, c, (opener as u16).saturating_sub(a as u16 + 1));
+    let below = u16::from(opener).saturating_sub(u16::from(a) + 1);
+    push_list(run, a, c, below);
     run.push(TAIL);
     push_open_results(run, words, j);
 }

@@ -1,4 +1,5 @@
 // Checking one function: refusals 7 to 15, in their order.
+// The contracts speak of every function that is described so: a ghost field would fix one, which each caller would have to name.
 ghost use Rattle.std.specs.Prelude.{◌≡◌, cond, ◌+◌, ◌/◌, ◌%◌, ◌<◌, eqb, length, IfErr};
 ghost use Rattle.lua51_instruction.specs.Proto.{Proto, size};
 ghost use Rattle.lua51_function.specs.Function.{HasLines};
@@ -12,7 +13,7 @@ use basics::slices::at_or;
 use lua51_function::function::{Head, line_at};
 use lua51_instruction::instruction::{decode, flow_of, opcode_of};
 use lua51_instruction::op::{JMP, RETURN};
-use lua51_lifter::verdict::{FunctionFault, first_fault};
+use lua51_lifter::verdict::FunctionFault;
 use lua51_operands::operands::{has_arg, needs_arg, operand_fault};
 use lua51_operands::subject::Subject;
 use lua51_reach::reach::{asks, lands_inside};
@@ -37,6 +38,7 @@ fn head_fault(subject: &Subject) -> bool
 {
     let head = subject.head;
     let flags = head.flags;
+    // No plainer: Rust has no `From` of a u32 for a usize, and `try_from` has an error that cannot come
     let lines = head.lines as usize;
     (MOST_STACK < head.stack)
         | (u32::from(head.stack) < parameter_registers(head))
@@ -85,7 +87,7 @@ fn word_verdict(subject: &Subject, i: usize) -> Result<(), FunctionFault>
 fn words_verdict(subject: &Subject) -> Result<(), FunctionFault>
     ensures { (p : Proto) → Describes p subject.now → verdict_of result ≡ first_refusal (word_verdict p) 0 (size p) }
 {
-    first_fault(subject.words.len(), |i| word_verdict(subject, i))
+    (0..subject.words.len()).try_for_each(|i| word_verdict(subject, i))
 }
 
 // ------------------------------------------------------------ 15: source lines
@@ -110,7 +112,7 @@ fn lines_verdict(lines: &[u8], n: usize) -> Result<(), FunctionFault>
     ensures result_value { (p : Proto) → HasLines p lines.now → verdict_of result ≡ first_refusal (line_verdict p) 0 n }
     ensures anyway { Found 15 15 n (verdict_of result) }
 {
-    first_fault(n, |i| line_verdict(lines, i))
+    (0..n).try_for_each(|i| line_verdict(lines, i))
 }
 
 // ------------------------------------------------------------ all of them

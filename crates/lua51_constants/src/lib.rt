@@ -1,4 +1,5 @@
-// The F and K lines of a listing: a function's head, and its constants, read from the chunk's bytes as they are printed.
+// The F and K lines of a listing: a function's head, and its constants, read from the chunk's bytes as they are printed. The bytes and a
+// place in them stay two parameters: the bytes are the same for all constants, and a struct of both would be made anew at each.
 #![tactic(auto)]
 
 ghost use Rattle.std.specs.Prelude.{take, drop};
@@ -90,7 +91,8 @@ pub fn put_constant_lines(out: &mut Output, s: &[u8], first: usize, count: usize
 {
     let mut place = first;
     for i in 0..count {
-        put_constant_line(out, s, (i % SHORT_INDEXES) as u32, place);
+        let index = (i % SHORT_INDEXES) as u32; // it fits; `try_from` would have an error that cannot come
+        put_constant_line(out, s, index, place);
         place = constant(s, place).unwrap_or(0);
     }
 }

@@ -1,8 +1,10 @@
 // The walk over a whole chunk: where each function starts, where what follows its nested functions starts, and which function it
-// is nested in; or refusals 1 to 6.
+// is nested in; or refusals 1 to 6. The bytes and the table travel side by side: a struct of both would hold a `&mut`, and each step
+// would have to promise that it stays the same. A cast narrows only what a limit bounds: offsets of a chunk that is not too long, and
+// numbers of at most 256 functions. Of an offset a type would be made at each step and taken apart again.
 ghost use Rattle.std.specs.Prelude.{◌≡◌, ◌<◌, ◌≤◌, ◌++◌, [], get_or, set};
 ghost use Rattle.basics.specs.Range.{only};
-ghost use Rattle.lua51_deserializer.specs.Chunk.{nowhere, here, walked, most_bytes, exactly, signature, header, begin, finish, function, ends, walk};
+ghost use Rattle.lua51_deserializer.specs.Chunk.{nowhere, here, walked, most_bytes, most_functions, exactly, signature, header, begin, finish, function, ends, walk};
 ghost use Rattle.lua51_deserializer.specs.Cursor.{read_of, Inside};
 ghost use Rattle.lua51_deserializer.specs.Walked.{places_of};
 
@@ -12,31 +14,43 @@ use crate::fields::{
 use basics::slices::at_or;
 use lua51_value::bytes::int_at;
 
-// The place of a function that has begun. The offsets are kept as u32, which hold every offset of a chunk that is not too long.
-#[derive(Clone, Copy)]
+// The place of one function. The offsets are kept as u32, which hold every offset of a chunk that is not too long.
+#[derive(Clone, Copy, PartialEq, Eq, Debug)]
 pub struct Place {
     // where it starts
     pub start: u32,
     // where what follows its nested functions starts
     pub tail: u32,
-    // the number of the function that it is nested in, 0 for main: no number is above 255
+    // the number of the function that it is nested in; 0 for main, as the zeroed table has it: its own number keeps it from being its child
     pub parent: u8,
 }
 
-// Where there is no function.
+// Where there is no function: zeros, as the table holds where none has begun.
 pub const NOWHERE: Place = Place {
     start: 0,
     tail: 0,
     parent: 0,
 };
 
-// The functions that have begun, by number.
+// The functions that have begun, by number. Document 01 names the form, '[0; 256] of function start offsets': full-size zeroed arrays,
+// with the count of those that have begun beside them.
 #[derive(Clone, Copy)]
 pub struct Functions {
-    // the place of each: 3,072 bytes
-    pub places: [Place; 256],
+    // where each starts: 1,024 bytes
+    pub starts: [u32; MOST_FUNCTIONS],
+    // where what follows its nested functions starts: 1,024 bytes
+    pub tails: [u32; MOST_FUNCTIONS],
+    // the number of the function that it is nested in: 256 bytes, as no number is above 255
+    pub parents: [u8; MOST_FUNCTIONS],
     // how many have begun
     pub count: usize,
+}
+
+// A chunk that was walked, with the table of its functions.
+#[derive(Clone, Copy)]
+pub struct Chunk<'a> {
+    pub bytes: &'a [u8],
+    pub functions: &'a Functions,
 }
 
 impl Functions {
@@ -45,23 +59,23 @@ impl Functions {
         ensures { places_of result ≡ [] }
     {
         Self {
-            places: [NOWHERE; 256],
+            starts: [0; MOST_FUNCTIONS],
+            tails: [0; MOST_FUNCTIONS],
+            parents: [0; MOST_FUNCTIONS],
             count: 0,
         }
     }
 
     // A function that is nested in function `parent` begins at offset `start`.
     fn add(&mut self, start: usize, parent: u8)
-        requires { (self.old.count < 256) × (start ≤ most_bytes) }
+        requires { (self.old.count < most_functions) × (start ≤ most_bytes) }
         ensures { places_of self.new ≡ places_of self.old ++ only (record { start = start; tail = 0; parent = parent }) }
     {
         let number = self.count;
         let next = number + 1;
-        self.places[number] = Place {
-            start: start as u32,
-            tail: 0,
-            parent,
-        };
+        self.starts[number] = start as u32;
+        self.tails[number] = 0;
+        self.parents[number] = parent;
         self.count = next;
     }
 
@@ -70,7 +84,7 @@ impl Functions {
         requires { tail ≤ most_bytes }
         ensures { let at = get_or (places_of self.old) me nowhere in places_of self.new ≡ set (places_of self.old) me (record { start = at.start; tail = tail; parent = at.parent }) }
     {
-        self.places[usize::from(me)].tail = tail as u32;
+        self.tails[usize::from(me)] = tail as u32;
     }
 }
 
@@ -99,22 +113,17 @@ fn exactly(s: &[u8], at: usize, b: u8) -> Result<usize, ChunkFault>
 }
 
 // The header, from offset 0 on.
-#[tactic(auto, using(crate::proofs::Cursor::signature_turn, crate::proofs::Cursor::signature_none))]
 fn signature(s: &[u8]) -> Result<usize, ChunkFault>
     ensures { read_of result ≡ signature s.now header 0 }
 {
-    let mut at = 0;
-    for b in HEADER {
-        at = exactly(s, at, b)?;
-    }
-    Ok(at)
+    HEADER.iter().try_fold(0, |at, b| exactly(s, at, *b))
 }
 
 // A function that is nested in function `parent` begins at offset `at`: it is placed, and all up to its nested functions is
 // read.
 #[tactic(auto, unfolding(crate::specs::Chunk::begin))]
 fn begin(s: &[u8], at: usize, parent: u8, functions: &mut Functions) -> Result<usize, ChunkFault>
-    requires { (functions.old.count < 256) × (at ≤ most_bytes) }
+    requires { (functions.old.count < most_functions) × (at ≤ most_bytes) }
     ensures { walked (read_of result) (places_of functions.new) ≡ begin s.now parent (places_of functions.old) at }
 {
     functions.add(at, parent);
@@ -153,6 +162,7 @@ fn function(
     let count_at = begin(s, at, parent, functions)?;
     let mut reached = count_to(s, count_at, MOST)?;
     let count = int_at(s, count_at);
+    // A `try_fold` is no plainer: its closure would change the table that it holds, and so has to repeat this function's contract.
     for i in 0..count {
         reached = function(s, reached, depth - 1, me, functions)?;
     }

@@ -1,15 +1,17 @@
 // The fields of a chunk, in the order of Lua 5.1's ldump.c. Each reader reads the field at an offset and gives the offset behind it, or
-// what is wrong with the bytes.
-ghost use Rattle.std.specs.Prelude.{◌≡◌, ◌+◌, ◌-◌, ◌/◌, ◌^◌, ◌<◌, ℕ, Result, leb, length};
-ghost use Rattle.lua51_deserializer.specs.Chunk.{Read, again, field, limited, byte_to, count_to, counted, body, string, present, constant, head, code, constants, lines, locals, names};
+// what is wrong with the bytes. Bytes and offset are two parameters: an offset goes in and comes out, and `?` hands it on; a struct of
+// both would have to promise at each step that its bytes stay. `as usize` stands where Rust has no `From<u32>`.
+ghost use Rattle.std.specs.Prelude.{◌≡◌, ◌+◌, ◌-◌, ◌/◌, leb, length};
+ghost use Rattle.lua51_deserializer.specs.Chunk.{again, field, limited, byte_to, count_to, counted, body, string, present, constant, head, code, constants, lines, locals, names};
 ghost use Rattle.lua51_deserializer.specs.Cursor.{read_of, local};
 
+use crate::elements::{Constant, Local, Name, counted};
 use basics::slices::at_or;
 use lua51_value::bytes::int_at;
 use lua51_value::value::{KIND_BOOLEAN, KIND_NIL, KIND_NUMBER, KIND_STRING};
 
 // What is wrong with a chunk's bytes: refusals 1 to 6, each with its place.
-#[derive(Clone, Copy)]
+#[derive(Clone, Copy, PartialEq, Eq, Debug)]
 pub enum ChunkFault {
     // 1: the chunk is too long
     TooLong,
@@ -77,7 +79,7 @@ pub fn limited(
     Ok(behind)
 }
 
-// A byte that may not be above a limit.
+// A byte that may not be above a limit. (It and the next are `limited` at a size: their names are the definition's.)
 pub fn byte_to(s: &[u8], at: usize, limit: u32) -> Result<usize, ChunkFault>
     ensures { read_of result ≡ byte_to s.now limit at }
 {
@@ -152,41 +154,6 @@ pub fn local(s: &[u8], at: usize) -> Result<usize, ChunkFault>
     field(s, last_line, INT_SIZE)
 }
 
-// `n` elements from an offset on, each read by `element`.
-pub fn elements<F: Fn(usize) -> Result<usize, ChunkFault>>(
-    at: usize,
-    n: u32,
-    element: F,
-) -> Result<usize, ChunkFault>
-    ghost reads: { ℕ → Read }
-    requires callable { F.IsAlwaysCallable element }
-    requires answers { (i : ℕ) (r : Result ℕ ChunkFault) → i < 2 ^ 64 → F.post element i r → read_of r ≡ reads i }
-    ensures { read_of result ≡ again reads n at }
-{
-    let mut reached = at;
-    for i in 0..n {
-        reached = element(reached)?;
-    }
-    Ok(reached)
-}
-
-// A counted list, each element of it read by `element`.
-#[tactic(auto, unfolding(crate::specs::Chunk::counted))]
-pub fn counted<F: Fn(usize) -> Result<usize, ChunkFault>>(
-    s: &[u8],
-    at: usize,
-    limit: u32,
-    element: F,
-) -> Result<usize, ChunkFault>
-    ghost reads: { ℕ → Read }
-    requires callable { F.IsAlwaysCallable element }
-    requires answers { (i : ℕ) (r : Result ℕ ChunkFault) → i < 2 ^ 64 → F.post element i r → read_of r ≡ reads i }
-    ensures { read_of result ≡ counted s.now limit reads at }
-{
-    let first = count_to(s, at, limit)?;
-    elements(first, int_at(s, at), element)
-}
-
 // How many 4-byte numbers are whole from offset `at` on.
 fn numbers_left(s: &[u8], at: usize) -> usize
     ensures { result ≡ (length s.now - at) / 4 }
@@ -194,7 +161,8 @@ fn numbers_left(s: &[u8], at: usize) -> usize
     s.len().saturating_sub(at) / INT_SIZE
 }
 
-// `n` numbers, of any content; the first that is not whole is refused.
+// `n` numbers, of any content; the first that is not whole is refused. They are counted, not gone through as elements are,
+// which took 2 % more instructions (docs/PERFORMANCE.md).
 fn numbers(s: &[u8], at: usize, n: u32) -> Result<usize, ChunkFault>
     ensures { read_of result ≡ again (field s.now 4) n at }
 {
@@ -206,7 +174,7 @@ fn numbers(s: &[u8], at: usize, n: u32) -> Result<usize, ChunkFault>
     Ok(at + INT_SIZE * count)
 }
 
-// A counted list of numbers.
+// A counted list of numbers: no `counted`, for the reason at `numbers`.
 #[tactic(auto, unfolding(crate::specs::Chunk::counted))]
 fn counted_numbers(s: &[u8], at: usize, limit: u32) -> Result<usize, ChunkFault>
     ensures { read_of result ≡ counted s.now limit (field s.now 4) at }
@@ -229,7 +197,7 @@ pub fn head(s: &[u8], at: usize) -> Result<usize, ChunkFault>
     field(s, stack, BYTE_SIZE)
 }
 
-// A function's words.
+// A function's words. (This and the four below are one line each: their names are the definition's.)
 #[tactic(auto, unfolding(crate::specs::Chunk::code))]
 pub fn code(s: &[u8], at: usize) -> Result<usize, ChunkFault>
     ensures { read_of result ≡ code s.now at }
@@ -237,12 +205,12 @@ pub fn code(s: &[u8], at: usize) -> Result<usize, ChunkFault>
     counted_numbers(s, at, MOST_WORDS)
 }
 
-// A function's constants. (What is read in turn has functions of one line each: their names are the definition's.)
+// A function's constants.
 #[tactic(auto, unfolding(crate::specs::Chunk::constants))]
 pub fn constants(s: &[u8], at: usize) -> Result<usize, ChunkFault>
     ensures { read_of result ≡ constants s.now at }
 {
-    counted(s, at, MOST, |i| constant(s, i))
+    counted::<Constant>(s, at, MOST)
 }
 
 // The source lines of a function's words.
@@ -258,7 +226,7 @@ pub fn lines(s: &[u8], at: usize) -> Result<usize, ChunkFault>
 pub fn locals(s: &[u8], at: usize) -> Result<usize, ChunkFault>
     ensures { read_of result ≡ locals s.now at }
 {
-    counted(s, at, MOST, |i| local(s, i))
+    counted::<Local>(s, at, MOST)
 }
 
 // The names of a function's upvalues.
@@ -266,5 +234,5 @@ pub fn locals(s: &[u8], at: usize) -> Result<usize, ChunkFault>
 pub fn names(s: &[u8], at: usize) -> Result<usize, ChunkFault>
     ensures { read_of result ≡ names s.now at }
 {
-    counted(s, at, MOST, |i| string(s, i))
+    counted::<Name>(s, at, MOST)
 }

@@ -2,4 +2,5 @@
 #![tactic(auto)]
 
 pub mod chunk; // the walk over a chunk's functions
+pub mod elements; // the elements of counted lists
 pub mod fields; // the fields of a chunk

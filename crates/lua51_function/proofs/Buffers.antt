@@ -1,21 +1,18 @@
 -- Laws of filling a buffer from the front, and of the lists of a function that buffers are filled with. Assumes nothing.
-use mathlib.Core.List.{List, [], ◌∷◌, ◌++◌, map, map-map}
+use mathlib.Core.List.{List, [], ◌∷◌, ◌++◌, map, map-map, append-nil}
 use mathlib.Core.Path.{◌≡◌, refl, sym, ◌∙◌, ap}
 use Prim.Native.Nat.{ℕ, zero, suc, ◌+◌, ◌-◌, ◌*◌, ◌≤◌, ◌<◌, min}
 use native.Mathlib.Numerals.{add-one}
 use native.Mathlib.Omega.{arith}
 use borrow.Author.Tests.{lt-ltb, le-ltb, lt-leb, eq-eqb, ne_eqb, ltb-false}
 use lib.Dec.{ltb}
-use Rattle.std.proofs.Math.ListN.{get_or-map}
-use lib.ListN.{length-map, length, get_or, take, drop, set, length-append, length-take, length-drop, drop_of_length-le}
+use lib.ListN.{length, get_or, take, drop, set, length-append, length-take, length-drop, drop_of_length-le, get_or-eq_default}
 use lib.Seq.{drop-cons, drop-drop, get_or-drop, take-suc, set_at, length-take-le, append_snoc}
 use Rattle.lua51_deserializer.specs.Chunk.{Place, nowhere, ints, offset, constant, values_at, nested_in, words_of, constants_of, constants_at, proto_at}
 use Rattle.lua51_value.specs.Bytes.{byte_at, int_at}
 use Rattle.lua51_value.specs.Value.{value_at, kind_of}
 use Rattle.lua51_value.specs.Constant.{within}
-use Rattle.basics.specs.Range.{over, only}
-use Rattle.lua51_deserializer.specs.Walked.{place_of, place_at}
-use Rattle.lua51_deserializer.specs.declared.chunk.Place as kept
+use Rattle.lua51_deserializer.specs.Walked.{place_at}
 use Rattle.lua51_function.specs.Function.{held_count, held_of, places_from, Filled, kind_at, constant_places}
 use Rattle.lua51_deserializer.specs.declared.chunk.Functions.{Functions}
 use Rattle.basics.proofs.Tests.{either_way}
@@ -76,6 +73,13 @@ module _ {n : ℕ} {xs rest before held : List ℕ} (f : Filling n xs rest befor
   filled_all room h e =
       let whole : length xs ≡ n = omega (arith, length-drop n xs, ap length (f.left ∙ e)) in
       filled_count room (omega arith)
+
+-- the front of a buffer is filled, and so is the buffer as far
+pub filling_front : {m n : ℕ} {xs rest before front : List ℕ} → Filling m xs rest (take n before) front → m ≡ n → n ≤ length before
+    → Filling n xs rest before (front ++ drop n before)
+filling_front {m} {n} {xs} {rest} {before} {front} f e h =
+    let none : drop n (take n before) ≡ [] = drop_of_length-le (take n before) (omega (arith, length-take n before)) in
+    record { inside = omega (arith, f.inside); room = h; left = rw e at f.left; content = rw (f.content, e, none) (rw append-nil refl) }
 
 -- a list from n on: its n-th element, and what follows it
 module _ (xs : List ℕ) (n : ℕ) {y : ℕ} {ys : List ℕ} (e : drop n xs ≡ y ∷ ys) where
@@ -177,36 +181,23 @@ module _ (f : ℕ → Place → ℕ) (me : ℕ) where
     unfolding nested_in
     nested_other h e = split_off h ∙ either_way (ltb 0 k) (λ t. rw (t, ne_eqb _ _ e)) (λ t. rw t)
 
-    pub nested_main : k ≤ 0 → nested_in f me k (drop k ps) ≡ nested_in f me (k + 1) (drop (k + 1) ps)
-    nested_main h = let z : k ≡ 0 = omega arith in rw z (nested_start ps)
-
     pub nested_none : length ps ≤ k → nested_in f me k (drop k ps) ≡ []
     unfolding nested_in
     nested_none h = rw (drop_of_length-le ps h)
 
 -- ------------------------------------------------------------ the table of functions
 
-module _ (ps : List kept.Place) where
-  kept_from : (from n : ℕ) → from + n ≤ length ps → map place_of (take n (drop from ps)) ≡ over (λ f. only (place_at ps f)) from n
-  unfolding over
-  kept_from from zero h = refl
-  kept_from from (suc n) h =
-      let rest = kept_from (from + 1) n (omega arith) in
-      rw (drop-cons ps from (record { start = 0; tail = 0; parent = 0 }) (omega arith), ← add-one from) (λ i. place_at ps from ∷ rest i)
+module _ (t : Functions) where
+  pub held_length : length (held_of t) ≡ held_count t
+  held_length = over_length (place_at t.starts t.tails t.parents) 0 (held_count t)
 
-pub held_length : (t : Functions) → length (held_of t) ≡ held_count t
-held_length t = over_length (place_at t.places) 0 (held_count t)
+  pub held_at : (f : ℕ) → f < held_count t → get_or (held_of t) f nowhere ≡ place_at t.starts t.tails t.parents f
+  held_at f h =
+      let z : 0 + f ≡ f = omega arith in
+      rw z at (over_at (place_at t.starts t.tails t.parents) 0 (held_count t) f nowhere h)
 
-pub held_are : (t : Functions) → length t.places ≡ 256 → map place_of (take (held_count t) t.places) ≡ held_of t
-held_are t h = kept_from t.places 0 (held_count t) (omega arith)
-
--- the places that it holds, and one of them
-module _ (t : Functions) (qs : List kept.Place) (e : map place_of qs ≡ held_of t) where
-  pub held_count_is : length qs ≡ held_count t
-  held_count_is = sym (length-map qs place_of) ∙ (ap length e ∙ held_length t)
-
-  pub held_at : (k : ℕ) → get_or (held_of t) k nowhere ≡ place_of (get_or qs k (record { start = 0; tail = 0; parent = 0 }))
-  held_at k = rw (← e) (get_or-map place_of qs k (record { start = 0; tail = 0; parent = 0 }))
+  pub held_none : (f : ℕ) → held_count t ≤ f → get_or (held_of t) f nowhere ≡ nowhere
+  held_none f h = get_or-eq_default (held_of t) nowhere (omega (arith, held_length))
 
 -- ------------------------------------------------------------ a whole function
 

@@ -1,15 +1,16 @@
-// One function of a chunk, in plain buffers: its head by value, and its lists in arrays that the caller lends.
+// One function of a chunk, in plain buffers: its head by value, and its lists in arrays that the caller lends. `as usize` stands where
+// Rust has no `From<u32>`. A chunk and a function's number, and bytes and an offset, stay two parameters: one goes on, the other stays.
 ghost use Rattle.std.specs.Prelude.{◌≡◌, map, ◌+◌, min, get_or, length};
 ghost use Rattle.house_table.specs.House.{word_by};
 ghost use Rattle.lua51_deserializer.specs.Chunk.{ints, nowhere, offset, ◌then◌, lines, locals, bytes_of, words_of, constants_of, nested_in, proto_at};
 ghost use Rattle.lua51_value.specs.Bytes.{int_at};
 ghost use Rattle.lua51_deserializer.specs.Walked.{place_of};
 ghost use Rattle.lua51_value.specs.Constant.{within};
-ghost use Rattle.lua51_function.specs.Function.{held_of, number_in, upvalues_in, places_from, kind_at, Filled, head_of, line_in, Loads};
+ghost use Rattle.lua51_function.specs.Function.{held_count, held_of, number_in, upvalues_in, places_from, kind_at, Filled, head_of, line_in, lines_of, Loads};
 
 use basics::slices::at_or;
 use house_table::word_back;
-use lua51_deserializer::chunk::{Functions, MOST_FUNCTIONS, NOWHERE, Place};
+use lua51_deserializer::chunk::{Chunk, Functions, MOST_FUNCTIONS, NOWHERE, Place};
 use lua51_deserializer::fields::{INT_SIZE, constant, lines, locals, string};
 use lua51_value::bytes::{byte_behind, int_at};
 use lua51_value::value::{KIND_BOOLEAN, KIND_NIL, KIND_NUMBER, KIND_STRING, place_after};
@@ -29,7 +30,7 @@ pub struct Head {
 }
 
 // A function as the printers of its statements see it: its head, its words, the numbers of its nested functions and their counts of
-// upvalues.
+// upvalues. These are two lists, not one of pairs: what checks uses and what counts captures take the counts alone.
 #[derive(Clone, Copy)]
 pub struct View<'a> {
     pub head: Head,
@@ -38,15 +39,16 @@ pub struct View<'a> {
     pub nups: &'a [u8],
 }
 
-// A function's head; where its first constant stands, and how many constants it has; where its word lines stand, up to its locals;
-// and how many of its words, of its constants' kinds and of its nested functions the buffers hold.
+// A function's head; where its first constant stands, and how many constants it has; the bytes of its word lines; and how many of its
+// words, of its constants' kinds and of its nested functions the buffers hold.
 #[derive(Clone, Copy)]
-pub struct Loaded {
+pub struct Loaded<'a> {
     pub head: Head,
     pub first: usize,
     pub constants: usize,
-    pub lines: usize,
-    pub locals: usize,
+    pub lines: &'a [u8],
+    // Counts, not the filled parts as slices: tried, and where those are given back a contract cannot say what the buffers hold then
+    // ("this `&mut` may have gone into the result, .., so it has no value after the call").
     pub words: usize,
     pub kinds: usize,
     pub nested: usize,
@@ -78,19 +80,26 @@ const FLAGS: usize = 2;
 
 const STACK: usize = 3;
 
-// The places of the functions that the table holds.
-fn held(functions: &Functions) -> &[Place]
-    ensures { map place_of result.now ≡ held_of functions.now }
+// How many functions a table holds.
+fn held_count(functions: &Functions) -> usize
+    ensures { result ≡ held_count functions.now }
 {
-    let places: &[Place] = &functions.places;
-    &places[..functions.count.min(MOST_FUNCTIONS)]
+    functions.count.min(MOST_FUNCTIONS)
 }
 
-// The place of function f; 0 where there is none.
+// The place of function f; `NOWHERE` where the table holds none, as in the definition.
 fn place_in(functions: &Functions, f: u32) -> Place
     ensures { place_of result ≡ get_or (held_of functions.now) f nowhere }
 {
-    at_or(held(functions), f as usize, NOWHERE)
+    let number = f as usize;
+    if held_count(functions) <= number {
+        return NOWHERE;
+    }
+    Place {
+        start: functions.starts[number],
+        tail: functions.tails[number],
+        parent: functions.parents[number],
+    }
 }
 
 // Where the four bytes of the function that starts at `start` stand.
@@ -120,13 +129,14 @@ fn constants_of(s: &[u8], start: usize) -> usize
 
 // How many words function f has.
 #[tactic(auto, using(crate::proofs::Buffers::ints_length, lua51_value::proofs::Ends::int_within), unfolding(lua51_deserializer::specs::Chunk::proto_at))]
-pub fn word_count(s: &[u8], functions: Functions, f: u32) -> usize
-    ensures { result ≡ length (proto_at s.now (held_of functions) f).words }
+pub fn word_count(chunk: Chunk, f: u32) -> usize
+    ensures { result ≡ length (proto_at chunk.entry.bytes.now (held_of chunk.entry.functions.now) f).words }
 {
-    int_at(s, words_of(s, place_in(&functions, f).start as usize)) as usize
+    let start = place_in(chunk.functions, f).start as usize;
+    int_at(chunk.bytes, words_of(chunk.bytes, start)) as usize
 }
 
-// Where the names stand of the function whose lines stand at `tail`; 0 where no locals can be read.
+// Where the names stand of the function whose lines stand at `tail`; 0 where no locals can be read, as the definition's `offset`.
 fn names_from(s: &[u8], tail: usize) -> usize
     ensures { result ≡ offset (lines s.now tail then locals s.now) }
 {
@@ -135,10 +145,11 @@ fn names_from(s: &[u8], tail: usize) -> usize
 
 // Function f without its lists.
 #[tactic(auto, using(crate::proofs::Buffers::ints_length, crate::proofs::Buffers::byte_after, lua51_value::proofs::Ends::byte_within), unfolding(lua51_deserializer::specs::Chunk::proto_at))]
-fn head_at(s: &[u8], functions: &Functions, f: u32) -> Head
-    ensures { result ≡ head_of (proto_at s.now (held_of functions.now) f) }
+fn head_at(chunk: Chunk, f: u32) -> Head
+    ensures { result ≡ head_of (proto_at chunk.entry.bytes.now (held_of chunk.entry.functions.now) f) }
 {
-    let place = place_in(functions, f);
+    let s = chunk.bytes;
+    let place = place_in(chunk.functions, f);
     let bytes = bytes_of(s, place.start as usize);
     let tail = place.tail as usize;
     Head {
@@ -159,9 +170,9 @@ fn fill_words(s: &[u8], start: usize, inverse: &[u8], words: &mut [u32]) -> usiz
     let at = words_of(s, start);
     let first = place_after(s, at, INT_SIZE);
     let n = (int_at(s, at) as usize).min(words.len());
-    for i in 0..n {
-        let word = int_at(s, place_after(s, first, INT_SIZE * i));
-        words[i] = word_back(inverse, word);
+    for (i, word) in words[..n].iter_mut().enumerate() {
+        let stored = int_at(s, place_after(s, first, INT_SIZE * i));
+        *word = word_back(inverse, stored);
     }
     n
 }
@@ -184,8 +195,8 @@ fn fill_kinds(s: &[u8], first: usize, count: usize, kinds: &mut [u8]) -> usize
 {
     let n = count.min(kinds.len());
     let mut at = first;
-    for i in 0..n {
-        kinds[i] = kind_at(s, at);
+    for kind in &mut kinds[..n] {
+        *kind = kind_at(s, at);
         at = constant(s, at).unwrap_or(0);
     }
     n
@@ -193,33 +204,40 @@ fn fill_kinds(s: &[u8], first: usize, count: usize, kinds: &mut [u8]) -> usize
 
 // The numbers of the functions that are nested in function `me`, and their counts of upvalues; gives how many there was room
 // for.
-fn fill_nested(
-    s: &[u8],
-    functions: &Functions,
-    me: u32,
-    numbers: &mut [u32],
-    nups: &mut [u8],
-) -> usize
-    ensures numbers { Filled result (min (length numbers.old) (length nups.old)) (nested_in number_in me 0 (held_of functions.now)) numbers.old numbers.new }
-    ensures nups { Filled result (min (length numbers.old) (length nups.old)) (nested_in (upvalues_in s.now) me 0 (held_of functions.now)) nups.old nups.new }
+fn fill_nested(chunk: Chunk, me: u32, numbers: &mut [u32], nups: &mut [u8]) -> usize
+    ensures numbers { Filled result (min (length numbers.old) (length nups.old)) (nested_in number_in me 0 (held_of chunk.entry.functions.now)) numbers.old numbers.new }
+    ensures nups { Filled result (min (length numbers.old) (length nups.old)) (nested_in (upvalues_in chunk.entry.bytes.now) me 0 (held_of chunk.entry.functions.now)) nups.old nups.new }
 {
     let room = numbers.len().min(nups.len());
-    let places = held(functions);
+    let s = chunk.bytes;
+    let count = held_count(chunk.functions);
     let mut n = 0;
-    for (k, place) in places.iter().enumerate() {
-        if 0 < k && u32::from(place.parent) == me {
+    // By index: a turn writes at the next free place, and only where the function is nested in this one.
+    for k in 1..count {
+        if u32::from(chunk.functions.parents[k]) == me {
             if room <= n {
                 return n;
             }
+            let start = chunk.functions.starts[k] as usize;
+            // The cast narrows: at most 256 functions are held.
             numbers[n] = k as u32;
-            nups[n] = at_or(s, bytes_of(s, place.start as usize), 0);
+            nups[n] = at_or(s, bytes_of(s, start), 0);
             n += 1;
         }
     }
     n
 }
 
-// The line of word i, by the bytes of a function's word lines; 0 past the last.
+// The bytes of the word lines of the function whose rest stands at `tail`.
+fn lines_of(s: &[u8], tail: usize) -> &[u8]
+    ensures { result.now ≡ lines_of s.now tail }
+{
+    let from = place_after(s, tail, INT_SIZE);
+    let size = INT_SIZE * (int_at(s, tail) as usize);
+    &s[from..place_after(s, from, size)]
+}
+
+// The line of word i, by the bytes of a function's word lines; past the last, 0, as a B line prints it.
 #[tactic(auto, using(crate::proofs::WordLines::line_none))]
 pub fn line_at(lines: &[u8], i: usize) -> usize
     ensures { result ≡ line_in lines.now i }
@@ -230,38 +248,37 @@ pub fn line_at(lines: &[u8], i: usize) -> usize
     int_at(lines, INT_SIZE * i) as usize
 }
 
-// Function f of a chunk that was walked: its head, where its constants start and how many they are, where its word lines stand; and
+// Function f of a chunk that was walked: its head, where its constants start and how many they are, the bytes of its word lines; and
 // in the buffers its words, the kinds of its constants, the numbers of the functions nested in it and their counts of upvalues, each
 // list as far as there is room. Words are put back as they are loaded, by the inverse of a table, whatever that holds. Who needs no kinds
 // lends an empty buffer for them.
-pub fn function_at(
-    s: &[u8],
-    functions: Functions,
+//
+// The buffers are four parameters: of a struct of them a contract could tell what they hold afterwards by position alone.
+pub fn function_at<'a>(
+    chunk: Chunk<'a>,
     f: u32,
     inverse: &[u8],
     words: &mut [u32],
     kinds: &mut [u8],
     nested: &mut [u32],
     nups: &mut [u8],
-) -> Loaded
-    ensures { Loads (word_by inverse.now) s.now (held_of functions) f result words.old words.new kinds.old kinds.new nested.old nested.new nups.old nups.new }
+) -> Loaded<'a>
+    ensures { Loads (word_by inverse.now) chunk.entry.bytes.now (held_of chunk.entry.functions.now) f result
+        words.old words.new kinds.old kinds.new nested.old nested.new nups.old nups.new }
 {
-    let place = place_in(&functions, f);
+    let s = chunk.bytes;
+    let place = place_in(chunk.functions, f);
     let start = place.start as usize;
-    let head = head_at(s, &functions, f);
     let count_at = constants_of(s, start);
     let first = place_after(s, count_at, INT_SIZE);
     let constants = int_at(s, count_at) as usize;
-    let lines = place_after(s, place.tail as usize, INT_SIZE);
-    let locals = place_after(s, lines, INT_SIZE * (head.lines as usize));
     Loaded {
-        head,
+        head: head_at(chunk, f),
         first,
         constants,
-        lines,
-        locals,
+        lines: lines_of(s, place.tail as usize),
         words: fill_words(s, start, inverse, words),
         kinds: fill_kinds(s, first, constants, kinds),
-        nested: fill_nested(s, &functions, f, nested, nups),
+        nested: fill_nested(chunk, f, nested, nups),
     }
 }

@@ -34,44 +34,45 @@ const BX_WIDTH: u64 = 18;
 // What is taken from Bx to give the signed sBx.
 const BIAS: i32 = 131071;
 
-// Each field is read by a function of its own: a field has its own width, and one function for all would not say which.
+// Each field is read by a function of its own: a field has its own width, and one function for all would not say which. A field is cast
+// to the type that its width has room in: `try_from` would have a case that cannot come.
 
 // The opcode of a word, from 0 to 63.
 pub fn opcode_of(word: u32) -> u8
     ensures { result ≡ field_opcode word }
 {
-    field(word as u64, OPCODE_FROM, OPCODE_WIDTH) as u8
+    field(u64::from(word), OPCODE_FROM, OPCODE_WIDTH) as u8
 }
 
 // Operand A of a word.
 pub fn a_of(word: u32) -> u8
     ensures { result ≡ field_a word }
 {
-    field(word as u64, A_FROM, A_WIDTH) as u8
+    field(u64::from(word), A_FROM, A_WIDTH) as u8
 }
 
 // Operand B of a word.
 pub fn b_of(word: u32) -> u16
     ensures { result ≡ field_b word }
 {
-    field(word as u64, B_FROM, B_WIDTH) as u16
+    field(u64::from(word), B_FROM, B_WIDTH) as u16
 }
 
 // Operand C of a word.
 pub fn c_of(word: u32) -> u16
     ensures { result ≡ field_c word }
 {
-    field(word as u64, C_FROM, C_WIDTH) as u16
+    field(u64::from(word), C_FROM, C_WIDTH) as u16
 }
 
 // Operand Bx of a word.
 pub fn bx_of(word: u32) -> u32
     ensures { result ≡ field_bx word }
 {
-    field(word as u64, BX_FROM, BX_WIDTH) as u32
+    field(u64::from(word), BX_FROM, BX_WIDTH) as u32
 }
 
-// The signed operand sBx of a word, from -131,071 to 131,072.
+// The signed operand sBx of a word, from -131,071 to 131,072. Bx has 18 bits, so its cast is another case of those above.
 pub fn sbx_of(word: u32) -> i32
     ensures { result ≡ s_bx word }
 {
@@ -80,7 +81,7 @@ pub fn sbx_of(word: u32) -> i32
 
 // ------------------------------------------------------------ jumps
 
-// The largest i32.
+// The largest i32. A constant cannot call `try_from`.
 const LARGEST: usize = i32::MAX as usize;
 
 // The last word number from which word + 1 + sBx is below that, whatever sBx is.
@@ -90,14 +91,12 @@ const LAST_JUMP: usize = LARGEST - 131074;
 fn signed(n: usize) -> i32
     ensures { result ≡ pos (min n largest_i32) }
 {
-    if n < LARGEST {
-        return n as i32;
-    }
-    LARGEST as i32
+    i32::try_from(n).unwrap_or(i32::MAX)
 }
 
-// The target of the jump that is word i of n words: word + 1 + sBx as an i32, tested against 0 and n before it is cast; none where it
-// leads outside. (`usize::try_from` was tried in place of the test against 0: it takes three instructions more at each jump.)
+// The target of the jump that is word i of n words: word + 1 + sBx as an i32, tested against 0 and n before it is cast, which is the form
+// that document 01 names; none where it leads outside. (`usize::try_from` was tried in place of the test against 0: it takes three
+// instructions more at each jump.) Word numbers above LAST_JUMP are out, so that the cast of i loses nothing.
 pub fn jump_target(i: usize, n: usize, word: u32) -> Option<usize>
     ensures { result ≡ target_of i n word }
 {
@@ -193,7 +192,8 @@ pub struct Row {
 // How many opcodes there are.
 pub const OPCODES: usize = 38;
 
-// The table of the opcodes 0 to 37, in the order of lopcodes.h: the kinds of A, B and C.
+// The table of the opcodes 0 to 37, in the order of lopcodes.h: the kinds of A, B and C. Tuples: a row's field names, 38 times, would be no
+// plainer.
 const ROWS: [(Kind, Kind, Kind); OPCODES] = [
     (Kind::Register, Kind::Register, Kind::Unused), // MOVE
     (Kind::Register, Kind::Constant, Kind::Unused), // LOADK
@@ -246,7 +246,7 @@ fn row_of(opcode: u8) -> Row
     Row { a, b, c }
 }
 
-// The flow of an opcode. An opcode above 37 goes straight on.
+// The flow of an opcode. An opcode above 37 goes straight on. One arm for each test: joined by `|` two goals stayed open.
 #[tactic(auto, unfolding(crate::specs::Word::op_of, crate::specs::Word::row, crate::specs::Word::row_of))]
 pub fn flow_of(opcode: u8) -> Flow
     ensures { flow_meant result ≡ (row_of opcode).flow }
@@ -279,7 +279,7 @@ pub struct Fields {
     pub bx: u32,
 }
 
-// Splits a word into its fields.
+// Splits a word into its fields. By name, as each of them is read by name.
 pub fn fields_of(word: u32) -> Fields
     ensures { FieldsOf word result }
 {

@@ -1,4 +1,5 @@
 pub mod Verdicts
+pub mod FirstFault
 pub mod Accepted
 pub mod Captures
 pub mod Ranges

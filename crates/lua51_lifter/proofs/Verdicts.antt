@@ -2,7 +2,7 @@
 use mathlib.Core.Bool.{Bool, true, false, not, ◌&&◌, ◌||◌}
 use Prim.Native.Nat.{ℕ, zero, suc, ◌+◌, ◌<◌, ◌≤◌, ◌-◌}
 use native.Mathlib.Omega.{arith}
-use mathlib.Core.Path.{◌≡◌, refl, subst, sym, ap, ◌∙◌}
+use mathlib.Core.Path.{◌≡◌, refl, subst}
 use lib.Dec.{ltb}
 use Rattle.lua51_lifter.specs.Check.{refuse_if, Verdict, first_refusal, fine, ◌else◌, wrong, check, word_verdict}
 use Rattle.lua51_lifter.specs.Check.{use_verdict, operand_fault, head_fault, unused_results, last_fault}
@@ -40,25 +40,6 @@ module _ (f : ℕ → Verdict) (n i : ℕ) where
   pub first_end : n ≤ i → first_refusal f i (n - i) ≡ fine
   unfolding first_refusal
   first_end h = let e : n - i ≡ 0 = omega arith in rw e
-
--- where f finds nothing at the first i numbers, the search goes on behind them
-first_behind : (f : ℕ → Verdict) (n i : ℕ) → i ≤ n → ((k : ℕ) → k < i → f k ≡ fine) → first_refusal f 0 n ≡ first_refusal f i (n - i)
-first_behind f n zero le h = let e : n - 0 ≡ n = omega arith in rw e
-first_behind f n (suc i) le h =
-    let e : suc i ≡ i + 1 = omega arith in
-    rw e
-    (first_behind f n i (omega arith) (λ k l. h k (omega arith))
-    ∙ (first_turn f n i (omega arith) ∙ ap (λ (v : Verdict). v else first_refusal f (i + 1) (n - (i + 1))) (h i (omega arith))))
-
-module _ (f : ℕ → Verdict) (n : ℕ) where
-  -- it ends at the first refusal, and behind all numbers
-  pub first_found : (i k p : ℕ) → i < n → ((j : ℕ) → j < i → f j ≡ fine) → wrong k p ≡ f i → wrong k p ≡ first_refusal f 0 n
-  first_found i k p lt h e =
-      sym (first_behind f n i (omega arith) h
-      ∙ (first_turn f n i lt ∙ ap (λ (v : Verdict). v else first_refusal f (i + 1) (n - (i + 1))) (sym e)))
-
-  pub first_none : ((j : ℕ) → j < n → f j ≡ fine) → fine ≡ first_refusal f 0 n
-  first_none h = sym (first_behind f n n (omega arith) h ∙ first_end f n n (omega arith))
 
 -- ------------------------------------------------------------ the numbers of refusals
 

@@ -1,4 +1,7 @@
 // Printing the words of a block: their S lines, of which captures have none.
+//
+// The output and the buffer of a run stay two parameters, since a run is read from the buffer while the output takes its line. A contract
+// speaks of every function that a view shows: a ghost field would fix one, and callers would have to name it.
 #![tactic(auto)]
 
 ghost use Rattle.std.specs.Prelude.{ℕ, ◌+◌, ◌-◌, ◌≡◌, length};
@@ -43,7 +46,7 @@ fn pending_behind(function: &View, i: usize, pending: u8) -> u8
     }
     let word = at_or(function.words, i, 0);
     if opcode_of(word) == op::CLOSURE {
-        return at_or(function.nups, bx_of(word) as usize, 0);
+        return at_or(function.nups, bx_of(word) as usize, 0); // Rust has no `From` of u32 for usize
     }
     0
 }

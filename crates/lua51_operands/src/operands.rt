@@ -1,13 +1,13 @@
 // Refusal 9: the operands of a word, by the kinds in the table of opcodes.
-ghost use Rattle.std.specs.Prelude.{◌≡◌, cond, ◌&&◌, ◌||◌, ℕ, ◌+◌, ◌-◌, ◌/◌, ◌%◌, ◌<◌, leb, ltb, eqb, length, get_or};
+// The contracts speak of every function that is described so: a ghost field would fix one, which each caller would have to name.
+ghost use Rattle.std.specs.Prelude.{◌≡◌, List, cond, ◌&&◌, ◌||◌, ℕ, ◌+◌, ◌-◌, ◌/◌, ◌%◌, ◌<◌, leb, ltb, eqb, length, get_or};
 ghost use Rattle.lua51_value.specs.Value.{kind_string};
 ghost use Rattle.lua51_instruction.specs.Instruction.{kind_meant, FieldsOf, Decodes};
 ghost use Rattle.lua51_instruction.specs.Proto.{Proto};
+ghost use Rattle.lua51_function.specs.Function.{Stands};
 ghost use Rattle.lua51_lifter.specs.Check.{operand, operand_fault};
-ghost use Rattle.lua51_operands.specs.Describes.{Describes};
 
 use crate::subject::Subject;
-use basics::slices::at_or;
 use lua51_instruction::argument::{RegisterOrConstant, register_or_constant};
 use lua51_instruction::instruction::{Fields, Instruction, Kind, OPCODES};
 use lua51_value::value::KIND_STRING;
@@ -15,7 +15,8 @@ use lua51_value::value::KIND_STRING;
 // ------------------------------------------------------------ flags
 
 // The flags of a function of variable arguments (lobject.h): it has a local `arg`, it takes variable arguments, and its `arg`
-// is filled.
+// is filled. They are bits of one byte of a chunk, so an enum would be no plainer; nor would one reader for the three, which are one line
+// each.
 const HAS_ARG: u8 = 1;
 
 const IS_VARARG: u8 = 2;
@@ -77,7 +78,7 @@ fn either_fits(x: u16, stack: u32, constants: usize) -> bool
 fn names_global(constant: usize, kinds: &[u8]) -> bool
     ensures { result ≡ ltb constant (length kinds.now) && eqb (get_or kinds.now constant 0) kind_string }
 {
-    (constant < kinds.len()) & (at_or(kinds, constant, 0) == KIND_STRING)
+    kinds.get(constant) == Some(&KIND_STRING)
 }
 
 // Whether n, one more than the count of the run that starts at R(a), is inside; 0 where it is open.
@@ -91,13 +92,15 @@ fn values_fit(n: u16, a: u8, stack: u8) -> bool
 // Whether operand x of a word of some fields is inside, by its kind.
 #[tactic(auto, unfolding(lua51_lifter::specs::Check::operand))]
 fn operand_fits(subject: &Subject, fields: Fields, kind: Kind, x: u16) -> bool
-    ensures { (p : Proto) (i : ℕ) → Describes p subject.now → FieldsOf (get_or subject.now.words.now i 0) fields → result ≡ operand p i (kind_meant kind) x }
+    ensures { (p : Proto) (i : ℕ) (ws us : List ℕ) → Stands p subject.now.head ws subject.now.kinds.now subject.now.nested.now us
+        → FieldsOf (get_or ws i 0) fields → result ≡ operand p i (kind_meant kind) x }
 {
     let head = subject.head;
     let kinds = subject.kinds;
     let n = u32::from(x);
     let a = u32::from(fields.a);
     let b = u32::from(fields.b);
+    // No plainer: Rust has no `From` of a u32 for a usize, and `try_from` has an error that cannot come
     let bx = fields.bx as usize;
     let stack = u32::from(subject.head.stack);
     match kind {
@@ -125,10 +128,11 @@ fn operand_fits(subject: &Subject, fields: Fields, kind: Kind, x: u16) -> bool
     }
 }
 
-// Whether the opcode of an instruction is unknown, or an operand is outside.
-#[tactic(auto, unfolding(lua51_lifter::specs::Check::operand_fault))]
+// Whether the opcode of an instruction is unknown, or an operand is outside. Of what is described only the head, the kinds and the nested
+// functions are read.
 pub fn operand_fault(subject: &Subject, instruction: Instruction) -> bool
-    ensures { (p : Proto) (i : ℕ) → Describes p subject.now → Decodes (get_or subject.now.words.now i 0) instruction → result ≡ operand_fault p i }
+    ensures { (p : Proto) (i : ℕ) (ws us : List ℕ) → Stands p subject.now.head ws subject.now.kinds.now subject.now.nested.now us
+        → Decodes (get_or ws i 0) instruction → result ≡ operand_fault p i }
 {
     let fields = instruction.fields;
     let row = instruction.row;

@@ -2,8 +2,8 @@
 use lua51_function::function::Head;
 
 // A function as it is judged: its head, its words, the kinds of its constants, the numbers of its nested functions and their counts of
-// upvalues, and the bytes of its word lines. It holds no `View`: where a struct of references stands in another, what makes it gets no proof
-// (tried).
+// upvalues, and the bytes of its word lines. It holds no `View`: tried, and a function that makes both of one set of buffers, as judging
+// does, gets no proof.
 #[derive(Clone, Copy)]
 pub struct Subject<'a> {
     pub head: Head,

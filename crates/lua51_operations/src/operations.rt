@@ -1,4 +1,4 @@
-// The statements of the opcodes from ADD to CONCAT: R(A) gets an operation.
+// The statements of the opcodes from ADD to CONCAT: R(A) gets an operation. Opcodes are numbers, for the reason that stands at `op`.
 ghost use Rattle.std.specs.Prelude.{ℕ, ◌+◌, ◌-◌, ◌≤◌, ◌≡◌};
 ghost use Rattle.lua51_instruction.specs.Word.{op_of, number_of, ADD, POW, CONCAT};
 ghost use Rattle.lua51_instruction.specs.Proto.{Proto, word};
@@ -20,15 +20,15 @@ fn concat(run: &mut Run, w: Fields)
         → Adds run.old run.new (run_at (statements_by p i CONCAT) 0) }
     ensures anyway { Wrote run.old run.new }
 {
-    set_register(run, w.a as u32, &[]);
+    set_register(run, u32::from(w.a), &[]);
     push_concatenated(run, w.b, w.c.saturating_sub(w.b));
 }
 
-// The operator of an opcode from ADD to POW.
+// The operator of an opcode from ADD to POW: a number, since it is written at once, and the operators stand in the order of the opcodes.
 fn operator_of(opcode: u8) -> u32
     ensures { result ≡ opcode - number_of ADD + op_add }
 {
-    opcode.saturating_sub(op::ADD) as u32 + ast::ADD
+    u32::from(opcode.saturating_sub(op::ADD)) + ast::ADD
 }
 
 // Writes the statement of an opcode from ADD to POW.
@@ -37,7 +37,7 @@ fn arithmetic(run: &mut Run, w: Fields)
         → Adds run.old run.new (run_at (statements_by p i (op_of w.opcode)) 0) }
     ensures anyway { Wrote run.old run.new }
 {
-    set_register(run, w.a as u32, &[]);
+    set_register(run, u32::from(w.a), &[]);
     push_binary(run, w, operator_of(w.opcode));
 }
 
@@ -47,8 +47,8 @@ pub fn operation(run: &mut Run, w: Fields)
         → Adds run.old run.new (run_at (statements_by p i (op_of w.opcode)) 0) }
     ensures anyway { Wrote run.old run.new }
 {
-    let a = w.a as u32;
-    let b = w.b as u32;
+    let a = u32::from(w.a);
+    let b = u32::from(w.b);
     let opcode = w.opcode;
     if opcode <= op::POW {
         return arithmetic(run, w);

@@ -1,5 +1,6 @@
 // The statements of the opcodes from EQ to TESTSET: 'its condition is wrapped in Not where A (EQ, LT, LE) or C (TEST, TESTSET) is 0'.
-ghost use Rattle.std.specs.Prelude.{ℕ, ◌≤◌, cond, eqb, [], ◌∷◌};
+// Opcodes are numbers, for the reason that stands at `op`.
+ghost use Rattle.std.specs.Prelude.{ℕ, ◌≤◌, cond, [], ◌∷◌};
 ghost use Rattle.lua51_instruction.specs.Word.{op_of, number_of, EQ, TESTSET};
 ghost use Rattle.lua51_instruction.specs.Proto.{Proto, word};
 ghost use Rattle.lua51_instruction.specs.Instruction.{FieldsOf};
@@ -14,11 +15,11 @@ use lua51_instruction::instruction::Fields;
 use lua51_instruction::op;
 use lua51_runs::operands::push_binary;
 
-// Writes 'if', and Not where the flag is 0.
-fn push_if(run: &mut Run, flag: u16)
-    ensures { Adds run.old run.new (cond (eqb flag 0) (3 ∷ 8 ∷ 1 ∷ []) (3 ∷ [])) }
+// Writes 'if', and Not where its condition is wrapped.
+fn push_if(run: &mut Run, wrapped: bool)
+    ensures { Adds run.old run.new (cond wrapped (3 ∷ 8 ∷ 1 ∷ []) (3 ∷ [])) }
 {
-    if flag == 0 {
+    if wrapped {
         return run.push_all(&[IF, UNARY, NOT]);
     }
     run.push(IF);
@@ -28,7 +29,7 @@ fn push_if(run: &mut Run, flag: u16)
 fn comparison(run: &mut Run, w: Fields, operator: u32)
     ensures { Adds run.old run.new (ast.run (if_statement (condition w.a (binary operator (rk w.b) (rk w.c))))) }
 {
-    push_if(run, w.a as u16);
+    push_if(run, w.a == 0);
     push_binary(run, w, operator);
 }
 
@@ -36,7 +37,7 @@ fn comparison(run: &mut Run, w: Fields, operator: u32)
 fn truth(run: &mut Run, flag: u16, r: u32)
     ensures { Adds run.old run.new (ast.run (if_statement (condition flag (register r)))) }
 {
-    push_if(run, flag);
+    push_if(run, flag == 0);
     run.push_all(&[REGISTER, r]);
 }
 
@@ -51,7 +52,7 @@ pub fn test(run: &mut Run, w: Fields)
         op::EQ => comparison(run, w, EQUAL),
         op::LT => comparison(run, w, LESS),
         op::LE => comparison(run, w, LESS_OR_EQUAL),
-        op::TEST => truth(run, w.c, w.a as u32),
-        _ => truth(run, w.c, w.b as u32),
+        op::TEST => truth(run, w.c, u32::from(w.a)),
+        _ => truth(run, w.c, u32::from(w.b)),
     }
 }

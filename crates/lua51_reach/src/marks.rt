@@ -1,4 +1,5 @@
-// Marks of the words that are reached from elsewhere, in a lent array: 1 at each, and else 0.
+// Marks of the words that are reached from elsewhere, in a lent array: 1 at each, and else 0; bytes, for the reason at `MARKED`.
+// Clauses hold of every function p with these words. No plainer: a ghost field would hold one p, and each caller would have to name it.
 ghost use Rattle.std.specs.Prelude.{◌≡◌, length};
 ghost use Rattle.basics.specs.Range.{table};
 ghost use Rattle.lua51_instruction.specs.Proto.{Proto};

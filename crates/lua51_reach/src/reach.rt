@@ -1,4 +1,6 @@
-// Refusals 10 and 11: where a word leads beside the next one.
+// Refusals 10 and 11: where a word leads beside the next one. Words and the index of one stay two parameters: the index goes on, the words
+// stay.
+// Clauses hold of every function p with these words. No plainer: a ghost field would hold one p, and each caller would have to name it.
 ghost use Rattle.std.specs.Prelude.{◌≡◌};
 ghost use Rattle.lua51_instruction.specs.Instruction.{flow_meant};
 ghost use Rattle.lua51_instruction.specs.Proto.{Proto};

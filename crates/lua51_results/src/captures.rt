@@ -14,7 +14,8 @@ fn is_capture(word: u32) -> bool
     (opcode == MOVE) | (opcode == GETUPVAL)
 }
 
-// Whether `count` captures stand from word `first` on, none of them a leader.
+// Whether `count` captures stand from word `first` on, none of them a leader. Marks stay bytes by a rule of the project: bools are a
+// narrower type, and would ask more of callers. Words and leaders as one value would be no plainer: it would be made for this one call.
 pub fn captures_follow(words: &[u32], leaders: &[u8], first: usize, count: usize) -> bool
     ensures { result ≡ captures_from words.now leaders.now first count }
 {

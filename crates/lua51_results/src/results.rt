@@ -1,4 +1,5 @@
 // Open results, for refusal 12: the words that leave them and those that take them.
+// Clauses hold of every function p with this word. No plainer: a ghost field would hold one p, and each caller would have to name it.
 ghost use Rattle.std.specs.Prelude.{◌≡◌, ℕ, ◌+◌, get_or};
 ghost use Rattle.lua51_instruction.specs.Proto.{Proto};
 ghost use Rattle.lua51_lifter.specs.Check.{opener, user, slot, matches};

@@ -1,4 +1,7 @@
 // Closures, and what the words behind a CLOSURE capture.
+//
+// Words and the place of one stay two parameters: what a CLOSURE captures stands in the words behind it. A contract speaks of every
+// function with these words: a ghost field would fix one, and callers would have to name it.
 ghost use Rattle.std.specs.Prelude.{cond, ◌≡◌, eqb};
 ghost use Rattle.lua51_instruction.specs.Word.{field_opcode, number_of, MOVE, CLOSURE};
 ghost use Rattle.lua51_instruction.specs.Proto.{Proto};
@@ -14,7 +17,7 @@ use lua51_function::function::View;
 use lua51_instruction::instruction::{a_of, b_of, bx_of, opcode_of};
 use lua51_instruction::op;
 
-// The kind of expression that a capturing word gives: MOVE a register, any other an upvalue.
+// The kind of expression that a capturing word gives: MOVE a register, any other an upvalue. A number, since it is written at once.
 fn capture_kind(word: u32) -> u32
     ensures { result ≡ cond (eqb (field_opcode word) (number_of MOVE)) 1 5 }
 {
@@ -24,14 +27,14 @@ fn capture_kind(word: u32) -> u32
     UPVALUE
 }
 
-// Writes what the `count` words behind word i capture. Past the last word every place holds 0.
+// Writes what the `count` words behind word i capture. By index: past the last word every place holds 0, and an iterator would end.
 fn push_captures(run: &mut Run, words: &[u32], i: usize, count: u8)
     ensures { (p : Proto) → p.words ≡ words.now → Adds run.old run.new (exprs (captures p i count)) }
 {
     let behind = &words[words.len().min(i.saturating_add(1))..];
     for k in 0..usize::from(count) {
         let word = at_or(behind, k, 0);
-        run.push_all(&[capture_kind(word), b_of(word) as u32]);
+        run.push_all(&[capture_kind(word), u32::from(b_of(word))]);
     }
 }
 
@@ -41,12 +44,13 @@ pub fn closure(run: &mut Run, function: &View, i: usize)
         → Adds run.old run.new (run_at (statements_by p i CLOSURE) 0) }
 {
     let word = at_or(function.words, i, 0);
-    let which = bx_of(word) as usize;
+    let which = bx_of(word) as usize; // Rust has no `From` of u32 for usize
     let count = at_or(function.nups, which, 0);
+    let nested = at_or(function.nested, which, 0);
     set_register(
         run,
-        a_of(word) as u32,
-        &[ast::CLOSURE, at_or(function.nested, which, 0), count as u32],
+        u32::from(a_of(word)),
+        &[ast::CLOSURE, nested, u32::from(count)],
     );
     push_captures(run, function.words, i, count);
 }

@@ -12,8 +12,8 @@ pub fn push_operand(run: &mut Run, x: u16)
     ensures { Adds run.old run.new (expr (rk x)) }
 {
     match register_or_constant(x) {
-        RegisterOrConstant::Register(r) => run.push_all(&[REGISTER, r as u32]),
-        RegisterOrConstant::Constant(k) => run.push_all(&[CONSTANT, k as u32]),
+        RegisterOrConstant::Register(r) => run.push_all(&[REGISTER, u32::from(r)]),
+        RegisterOrConstant::Constant(k) => run.push_all(&[CONSTANT, u32::from(k)]),
     }
 }
 

@@ -21,7 +21,7 @@ pub fn set_register(run: &mut Run, r: u32, value: &[u32])
 pub fn push_lefts(run: &mut Run, first: u16, count: u16)
     ensures { Adds run.old run.new (lefts first count) }
 {
-    run.push_all(&[ASSIGN, count as u32, 1]);
+    run.push_all(&[ASSIGN, u32::from(count), 1]);
     run.push_registers(first, count);
 }
 
@@ -32,9 +32,9 @@ const VALUES_OF_A_BLOCK: u32 = 50;
 pub fn push_list(run: &mut Run, a: u8, c: u16, count: u16)
     ensures { Adds run.old run.new (listed a c count) }
 {
-    let index = c.saturating_sub(1) as u32 * VALUES_OF_A_BLOCK + 1;
-    run.push_all(&[SET_LIST, a as u32, index, count as u32]);
-    run.push_registers(a as u16 + 1, count);
+    let index = u32::from(c.saturating_sub(1)) * VALUES_OF_A_BLOCK + 1;
+    run.push_all(&[SET_LIST, u32::from(a), index, u32::from(count)]);
+    run.push_registers(u16::from(a) + 1, count);
 }
 
 // Writes 'close' of the registers from `first` to below the stack's end.
@@ -42,9 +42,9 @@ pub fn close(run: &mut Run, first: u8, stack: u8)
     ensures { Adds run.old run.new (ast.run (ast.close (over only first (stack - first)))) }
 {
     let count = stack.saturating_sub(first);
-    run.push_all(&[CLOSE, count as u32]);
+    run.push_all(&[CLOSE, u32::from(count)]);
     for register in first..stack {
-        run.push(register as u32);
+        run.push(u32::from(register));
     }
 }
 
@@ -52,8 +52,8 @@ pub fn close(run: &mut Run, first: u8, stack: u8)
 pub fn push_concatenated(run: &mut Run, first: u16, more: u16)
     ensures { Adds run.old run.new (expr (concatenated first more)) }
 {
-    let first = first as u32;
-    let last = first + more as u32;
+    let first = u32::from(first);
+    let last = first + u32::from(more);
     for register in first..last {
         run.push_all(&[BINARY, CONCAT, REGISTER, register]);
     }

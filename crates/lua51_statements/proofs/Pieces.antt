@@ -1,6 +1,6 @@
 -- Laws of printing a list piece by piece, and the statements of a word. Assumes nothing.
 use Prim.Native.Nat.{ℕ, ◌+◌, ◌≤◌, ◌<◌}
-use mathlib.Core.List.{List, [], ◌∷◌, ◌++◌, flat_map, append-nil}
+use mathlib.Core.List.{List, ◌++◌, flat_map, append-nil}
 use mathlib.Core.Path.{◌≡◌, sym}
 use lib.ListN.{length, take, get_or, length-map, get_or-map}
 use Rattle.std.proofs.lemmas.Grind.{flat_map-append}

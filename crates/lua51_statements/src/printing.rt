@@ -1,4 +1,9 @@
-// The S lines of a word: its statements, and the assignment on its Then edge. Each begins with the word's index and its opcode.
+// The S lines of a word: its statements, and the assignment on its Then edge. Each begins with the word's index and its opcode, a number
+// for the reason that stands at `op`.
+//
+// The output and the buffer stay two parameters, since a run is read from the buffer while the output takes its line. The index and the
+// opcode do too: a struct of both would be made anew at each word, and taken apart for its line. Contracts speak of every function with
+// these words, for the reason that stands at `statement`.
 ghost use Rattle.std.specs.Prelude.{ℕ, ◌≡◌, length};
 ghost use mathlib.Core.List.{List, ◌∷◌, flat_map};
 ghost use Rattle.lines.specs.Line.{line, letter_s};
@@ -42,17 +47,17 @@ pub fn put_nils(out: &mut Output, i: usize, opcode: u8, first: u8, count: u16)
     ensures { Puts out.old out.new (flat_map statement_line (naming i opcode (over (λ x. only (set_register x nil)) first count))) }
 {
     if out.has_ended() && i <= MOST_IN_COLUMNS {
-        out.skip(NIL_LINE * count as usize);
+        out.skip(NIL_LINE * usize::from(count));
         return;
     }
-    let first = first as u32;
-    for r in first..first + count as u32 {
+    let first = u32::from(first);
+    for r in first..first + u32::from(count) {
         put_statement(out, i, opcode, &[ASSIGN, 1, 1, REGISTER, r, NIL]);
     }
 }
 
-// Prints the statements of word i of a function, which is no capture, each as an S line. Each is written into the buffer `run` first, and what that
-// holds afterwards is of no use; but the nils of LOADNIL, which may be many, are printed straight, if the buffer could hold one.
+// Prints the statements of word i of a function, which is no capture, each as an S line. Each is written into the buffer `run` first, and
+// what that holds afterwards is of no use; but the nils of LOADNIL, which may be many, are printed straight, if the buffer could hold one.
 pub fn put_statements(out: &mut Output, run: &mut [u32], function: &View, i: usize)
     ensures { (p : Proto) (ks : List ℕ) → Shows p ks function.now
         → Puts out.old out.new (flat_map (line_within (length run.old)) (naming i (proto.opcode p i) (own_statements p i))) }
@@ -87,10 +92,10 @@ pub fn put_on_then(out: &mut Output, run: &mut [u32], words: &[u32], i: usize)
         → Puts out.old out.new (flat_map (line_within (length run.old)) (brought naming p i)) }
 {
     let word = at_or(words, i, 0);
-    let a = a_of(word) as u32;
+    let a = u32::from(a_of(word));
     let opcode = opcode_of(word);
     match opcode {
-        op::TESTSET => put_move(out, run, i, opcode, a, b_of(word) as u32),
+        op::TESTSET => put_move(out, run, i, opcode, a, u32::from(b_of(word))),
         op::FORLOOP => put_move(out, run, i, opcode, a + 3, a),
         op::TFORLOOP => put_move(out, run, i, opcode, a + 2, a + 3),
         _ => {}

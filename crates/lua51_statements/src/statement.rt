@@ -1,10 +1,12 @@
-// The statements of any word: how many there are, and each as a run.
-ghost use Rattle.std.specs.Prelude.{ℕ, List, ◌≤◌, ◌<◌, ◌≡◌, length};
+// The statements of any word: how many there are, and each as a run. Opcodes are numbers, for the reason that stands at `op`.
+//
+// k is the index of a statement in the list that defines those of its word, as many as LOADNIL has registers: no switch of few steps. A
+// contract speaks of every function with these words, nested functions and stack, of which a ghost field would fix one.
+ghost use Rattle.std.specs.Prelude.{ℕ, ◌≤◌, ◌<◌, ◌≡◌, length};
 ghost use Rattle.lua51_instruction.specs.Word.{op_of, number_of, CALL};
 ghost use Rattle.lua51_instruction.specs.Proto.{Proto};
 ghost use Rattle.lua51_instruction.specs.Proto as proto;
 ghost use Rattle.lua51_instruction.specs.Instruction.{FieldsOf};
-ghost use Rattle.lua51_function.specs.Function.{Shows};
 ghost use Rattle.ast.specs.Written.{Adds};
 ghost use Rattle.lua51_lifter.specs.Lift.{statements_by};
 ghost use Rattle.lua51_runs.specs.Runs.{run_at};
@@ -32,7 +34,7 @@ pub fn statement_count(word: u32) -> u16
         return 0;
     }
     match opcode {
-        op::LOADNIL => (b_of(word) + 1).saturating_sub(a_of(word) as u16),
+        op::LOADNIL => (b_of(word) + 1).saturating_sub(u16::from(a_of(word))),
         op::SELF => 2,
         op::JMP => 0,
         op::CALL => u16::from(c_of(word) != 0),
@@ -45,10 +47,11 @@ pub fn statement_count(word: u32) -> u16
 
 // Writes statement k of word i, which has more than k, where its opcode is from CALL on.
 fn from_call_on(run: &mut Run, function: &View, i: usize, w: Fields, k: u16)
-    ensures { (p : Proto) (ks : List ℕ) → Shows p ks function.now → FieldsOf (proto.word p i) w → number_of CALL ≤ w.opcode → k < length (statements_by p i (op_of w.opcode))
+    ensures { (p : Proto) → p.words ≡ function.now.words.now → p.nested ≡ function.now.nested.now → p.nups ≡ function.now.nups.now
+        → p.stack ≡ function.now.head.stack → FieldsOf (proto.word p i) w → number_of CALL ≤ w.opcode → k < length (statements_by p i (op_of w.opcode))
         → Adds run.old run.new (run_at (statements_by p i (op_of w.opcode)) k) }
 {
-    let a = w.a as u32;
+    let a = u32::from(w.a);
     let words = function.words;
     let opcode = w.opcode;
     match opcode {
@@ -67,7 +70,8 @@ fn from_call_on(run: &mut Run, function: &View, i: usize, w: Fields, k: u16)
 
 // Writes statement k of word i of a function, which has more than k.
 pub fn statement(run: &mut Run, function: &View, i: usize, k: u16)
-    ensures { (p : Proto) (ks : List ℕ) → Shows p ks function.now → k < length (own_statements p i)
+    ensures { (p : Proto) → p.words ≡ function.now.words.now → p.nested ≡ function.now.nested.now → p.nups ≡ function.now.nups.now
+        → p.stack ≡ function.now.head.stack → k < length (own_statements p i)
         → Adds run.old run.new (run_at (own_statements p i) k) }
 {
     let w = fields_of(at_or(function.words, i, 0));

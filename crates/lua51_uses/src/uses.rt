@@ -1,4 +1,5 @@
 // Refusals 12 to 14: words among words.
+// The contracts speak of every function that is described so: a ghost field would fix one, which each caller would have to name.
 ghost use Rattle.std.specs.Prelude.{◌≡◌, ◌<◌, length};
 ghost use Rattle.lua51_instruction.specs.Proto.{Proto, size};
 ghost use Rattle.lua51_lifter.specs.Check.{use_verdict, first_refusal, fine};
@@ -10,11 +11,11 @@ use crate::survey::Survey;
 use cfg::marks::{mark_leaders, marked};
 use lua51_instruction::instruction::opcode_of;
 use lua51_instruction::op::TESTSET;
-use lua51_lifter::verdict::{FunctionFault, first_fault};
+use lua51_lifter::verdict::FunctionFault;
 use lua51_reach::marks::mark_reached;
 
 // The verdict on word i among the others: its open results, then its captures, then the word behind a TESTSET.
-#[tactic(auto, using(lua51_reach::proofs::Marking::mark_says), unfolding(lua51_lifter::specs::Check::use_verdict))]
+#[tactic(auto, using(lua51_reach::proofs::Marking::mark_says, crate::proofs::Using::last_leads), unfolding(lua51_lifter::specs::Check::use_verdict))]
 fn use_verdict(survey: &Survey, i: usize) -> Result<(), FunctionFault>
     requires { i < length survey.now.words.now }
     ensures result_value { (p : Proto) → Surveys p survey.now → verdict_of result ≡ use_verdict p i }
@@ -37,12 +38,13 @@ fn uses_verdict(survey: &Survey) -> Result<(), FunctionFault>
     ensures result_value { (p : Proto) → Surveys p survey.now → verdict_of result ≡ first_refusal (use_verdict p) 0 (size p) }
     ensures anyway { Found 12 14 (length survey.now.words.now) (verdict_of result) }
 {
-    first_fault(survey.words.len(), |i| use_verdict(survey, i))
+    (0..survey.words.len()).try_for_each(|i| use_verdict(survey, i))
 }
 
 // The verdict on a function in which 7 to 11 find nothing: that on each word among the others. The marks of its leaders, and of its
 // jump targets and skips, are put into what is lent for them, one for each word and one behind the last. Whatever is lent, and
-// whatever 7 to 11 find, a fault is one of 12 to 14, at one of the words.
+// whatever 7 to 11 find, a fault is one of 12 to 14, at one of the words. Four parameters, no plainer as one: `Survey` has the marks
+// once they are made, and here they are lent to be written.
 pub fn check_uses(
     words: &[u32],
     nups: &[u8],

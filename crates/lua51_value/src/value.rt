@@ -3,7 +3,7 @@ ghost use Rattle.std.specs.Prelude.{◌≡◌, ◌+◌, ◌-◌, ◌<◌};
 ghost use Rattle.lua51_instruction.specs.Word.{bits};
 ghost use Rattle.lua51_value.specs.Constant.{within, pattern_at, number_of, pattern_of, pieces_of, Reads};
 
-use crate::bytes::int_at;
+use crate::bytes::{byte_behind, int_at};
 use basics::slices::at_or;
 use lua51_instruction::bits::field;
 
@@ -14,8 +14,8 @@ const SIGN: u64 = 1 << 63;
 // The bits of the NaN that arithmetic gives.
 const STANDARD_NAN: u64 = 0x7FF8000000000000;
 
-// The kinds of constants: the byte that stands before each, and in the buffers of kinds. Bytes, and no enum: it would be made of a byte
-// and be a byte again at each use, where `match` on these names is as plain.
+// The kinds of constants: the byte that stands before each, and in the buffers of kinds. Bytes, and no enum: the buffers of
+// kinds are lent as bytes, and an enum would ask a narrower type.
 pub const KIND_NIL: u8 = 0;
 
 pub const KIND_BOOLEAN: u8 = 1;
@@ -40,11 +40,6 @@ const CONTENT_FROM: usize = 1;
 
 const TEXT_FROM: usize = 5;
 
-// A pattern's higher half: how many bytes stand before it, and how much 1 in it is worth.
-const HIGH_FROM: usize = 4;
-
-const HIGH_WORTH: u64 = 1 << 32;
-
 // The place k bytes behind an offset, or the end of the bytes where that comes first.
 pub fn place_after(s: &[u8], at: usize, k: usize) -> usize
     ensures { result ≡ within s.now (at + k) }
@@ -53,15 +48,23 @@ pub fn place_after(s: &[u8], at: usize, k: usize) -> usize
 }
 
 // The 64 bits at an offset, the lowest byte first.
+#[tactic(auto, unfolding(crate::specs::Constant::pattern_at, crate::specs::Bytes::int_at))]
 pub fn pattern_at(s: &[u8], at: usize) -> u64
     ensures { result ≡ pattern_at s.now at }
 {
-    let low = u64::from(int_at(s, at));
-    let high = u64::from(int_at(s, place_after(s, at, HIGH_FROM)));
-    low + HIGH_WORTH * high
+    u64::from_le_bytes([
+        at_or(s, at, 0),
+        byte_behind(s, at, 1),
+        byte_behind(s, at, 2),
+        byte_behind(s, at, 3),
+        byte_behind(s, at, 4),
+        byte_behind(s, at, 5),
+        byte_behind(s, at, 6),
+        byte_behind(s, at, 7),
+    ])
 }
 
-// The number that 64 bits stand for.
+// The number that 64 bits stand for. By name and no `From`: bits alone are not yet those of a number.
 pub fn number(pattern: u64) -> Constant
     ensures { result ≡ number_of pattern }
 {
@@ -82,6 +85,7 @@ pub fn constant_at(s: &[u8], at: usize) -> Constant
         KIND_NIL => Constant::Nil,
         KIND_BOOLEAN => Constant::Boolean(at_or(s, content, 0) != 0),
         KIND_NUMBER => number(pattern_at(s, content)),
+        // Rust has no `usize::from` of a u32.
         _ => Constant::String {
             at: place_after(s, at, TEXT_FROM),
             len: int_at(s, content).saturating_sub(1) as usize,
@@ -89,7 +93,7 @@ pub fn constant_at(s: &[u8], at: usize) -> Constant
     }
 }
 
-// The 64 bits of a number; 0 of the other constants.
+// The 64 bits of a number; 0 of the other constants. Who asks knows that it is a number, and would take an Option apart again.
 #[tactic(auto, unfolding(crate::specs::Constant::pattern_of))]
 pub fn pattern_of(c: Constant) -> u64
     ensures { result ≡ pattern_of c }
@@ -122,7 +126,7 @@ const LOWEST_FROM: u64 = 0;
 
 const PIECE_WIDTH: u64 = 16;
 
-// The 16 bits of a pattern above its lowest `from` bits.
+// The 16 bits of a pattern above its lowest `from` bits, cast as they are: `try_from` would have a case that cannot come.
 fn piece(pattern: u64, from: u64) -> u16
     requires { from < 64 }
     ensures { result ≡ bits from 16 pattern }
@@ -130,7 +134,7 @@ fn piece(pattern: u64, from: u64) -> u16
     field(pattern, from, PIECE_WIDTH) as u16
 }
 
-// The four pieces of 64 bits.
+// The four pieces of 64 bits. By name: it is for the pieces as they are printed, one of many ways to part 64 bits.
 pub fn pieces_of(pattern: u64) -> Pieces
     ensures { result ≡ pieces_of pattern }
 {

@@ -13,24 +13,18 @@ use house_table::OPCODES;
 use judging::refusal::Refusal;
 use judging::walk_and_judge;
 use listing::function::put_function;
-use lua51_deserializer::chunk::Functions;
+use lua51_deserializer::chunk::{Chunk, Functions};
 use lua51_lister::RUN_NUMBERS;
 
 // Writes the listing of function f under a table from the output's start, where the output is long enough, and gives its length in any
 // case.
-fn write_whole(
-    s: &[u8],
-    functions: &Functions,
-    f: u32,
-    table: [u8; OPCODES],
-    out: &mut [u8],
-) -> usize
-    requires { Next table s.now functions.now f }
-    ensures value { result ≡ min (length (listing_of (word_back table) s.now f)) largest_usize }
-    ensures out_after { out.new ≡ where_it_fits (listing_of (word_back table) s.now f) out.old }
+fn write_whole(chunk: Chunk, f: u32, table: [u8; OPCODES], out: &mut [u8]) -> usize
+    requires { Next table chunk.bytes.now chunk.functions.now f }
+    ensures value { result ≡ min (length (listing_of (word_back table) chunk.entry.bytes.now f)) largest_usize }
+    ensures out_after { out.new ≡ where_it_fits (listing_of (word_back table) chunk.entry.bytes.now f) out.old }
 {
     let mut run = [0u32; RUN_NUMBERS];
-    put_function(out, s, *functions, f, table, true, &mut run)
+    put_function(out, chunk, f, table, true, &mut run)
 }
 
 impl Reading {
@@ -44,10 +38,15 @@ impl Reading {
         }
         let mut functions = Functions::new();
         let count = walk_and_judge(s, self.table, &mut functions)?;
+        // Rust has no `From` of u32 for usize
         if count <= self.next as usize {
             return Err(Refusal::NoFunction(self.next));
         }
-        let length = write_whole(s, &functions, self.next, self.table, out);
+        let chunk = Chunk {
+            bytes: s,
+            functions: &functions,
+        };
+        let length = write_whole(chunk, self.next, self.table, out);
         if out.len() < length {
             return Err(Refusal::OutputShort(self.next));
         }

@@ -49,7 +49,8 @@ impl Reading {
     }
 }
 
-// What a call gives, and the reading that it leaves.
+// What a call gives, and the reading that it leaves. Each of the three calls makes it of its own step: one helper would take that as a
+// closure.
 #[derive(Clone, Copy)]
 pub struct Called {
     pub answer: Result<usize, Refusal>,

@@ -7,7 +7,7 @@ use crate::{Called, Reading};
 use house_loading::table_of;
 use judging::refusal::Refusal;
 
-// A load has nothing to give.
+// A load has nothing to give, where every other call gives a number: `Called` holds the answers of all three, as C's answer does.
 const NOTHING: usize = 0;
 
 impl Reading {

@@ -1,5 +1,5 @@
 // Records of house tables and chunks, with what loading the one, and opening and delivering the other, write.
-use crate::listed::{behind_line, same_output};
+use crate::listed::{Whole, behind_line, same_output};
 use crate::record::{Outcome, read_first, read_part};
 use reading::Reading;
 use reading::load::load;
@@ -21,7 +21,7 @@ fn as_recorded(table: &[u8], s: &[u8], recorded: &[u8]) -> bool {
         Err(refusal) => behind_line(refusal, recorded),
     };
     match behind {
-        Some(rest) => same_output(loaded.reading, s, rest, true),
+        Some(rest) => same_output::<Whole>(loaded.reading, s, rest),
         None => false,
     }
 }

@@ -37,29 +37,39 @@ const PARENT: usize = 8;
 
 const MOST_FUNCTION_BYTES: usize = 3072;
 
+// The numbers where nothing is refused: a record has three in any case.
+const NOT_REFUSED: Numbers = Numbers {
+    number: 0,
+    function: 0,
+    place: 0,
+};
+
 // Whether the functions stand where the record has them.
 fn same_functions(functions: &Functions, recorded: &[u8]) -> bool {
-    let Some(places) = functions.places.get(..functions.count) else {
-        return false;
-    };
-    places.iter().zip(recorded.chunks_exact(FUNCTION_SIZE)).all(|(place, numbers)| {
-        place.start == int_at(numbers, START)
-            && place.tail == int_at(numbers, TAIL)
-            && u32::from(place.parent) == int_at(numbers, PARENT)
+    let places = functions
+        .starts
+        .iter()
+        .zip(&functions.tails)
+        .zip(&functions.parents);
+    recorded.chunks_exact(FUNCTION_SIZE).zip(places).all(|(numbers, ((start, tail), parent))| {
+        int_at(numbers, START) == *start
+            && int_at(numbers, TAIL) == *tail
+            && int_at(numbers, PARENT) == u32::from(*parent)
     })
 }
 
 // Whether the walk ended as the record has it: number and place are 0 where it came to the end.
 fn same_end(end: Result<usize, ChunkFault>, head: &[u8]) -> bool {
-    let number = number_at(head, NUMBER);
-    let place = number_at(head, PLACE);
-    match end {
-        Ok(_) => number == 0 && place == 0,
-        Err(fault) => {
-            let refused = Numbers::from(Refusal::from(fault));
-            refused.number == number && refused.place == place
-        }
-    }
+    let recorded = Numbers {
+        number: number_at(head, NUMBER),
+        function: 0,
+        place: number_at(head, PLACE),
+    };
+    let numbers = match end {
+        Ok(_) => NOT_REFUSED,
+        Err(fault) => Numbers::from(Refusal::from(fault)),
+    };
+    numbers == recorded
 }
 
 // Whether the walk's answer is the recorded one.
@@ -74,15 +84,14 @@ fn walked_alike(s: &[u8], head: &[u8], recorded: &[u8]) -> bool {
 // Whether the judgement is the recorded one. Of an accepted chunk it is the count of functions, which is the walk's, and the
 // record's numbers are 0.
 fn same_judgement(answer: Result<usize, Refusal>, head: &[u8]) -> bool {
-    let number = number_at(head, JUDGED_NUMBER);
-    let function = number_at(head, JUDGED_FUNCTION);
-    let place = number_at(head, JUDGED_PLACE);
+    let recorded = Numbers {
+        number: number_at(head, JUDGED_NUMBER),
+        function: number_at(head, JUDGED_FUNCTION),
+        place: number_at(head, JUDGED_PLACE),
+    };
     match answer {
-        Ok(count) => count == number_at(head, COUNT) && number == 0 && function == 0 && place == 0,
-        Err(refusal) => {
-            let refused = Numbers::from(refusal);
-            refused.number == number && refused.function == function && refused.place == place
-        }
+        Ok(count) => count == number_at(head, COUNT) && recorded == NOT_REFUSED,
+        Err(refusal) => recorded == Numbers::from(refusal),
     }
 }
 

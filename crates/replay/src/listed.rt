@@ -42,6 +42,7 @@ fn ends_with(refusal: Refusal, recorded: &[u8]) -> bool {
 }
 
 // Takes what the original does not tell out of a listing, and gives how many bytes are left. In a line no letter stands but the first.
+// By index: a turn reads one place of the listing and writes another.
 fn take_untold_out(listing: &mut [u8]) -> usize
     ensures { result ≤ length listing.new }
 {
@@ -65,18 +66,33 @@ fn take_untold_out(listing: &mut [u8]) -> usize
     kept
 }
 
-// What is recorded behind a listing, if that is what comes first: the whole of it, or what is left without what the original does not tell.
-fn behind_listing<'a>(listing: &mut [u8], recorded: &'a [u8], whole: bool) -> Option<&'a [u8]> {
-    if whole {
-        return recorded.strip_prefix(listing);
-    }
-    let kept = take_untold_out(listing);
-    recorded.strip_prefix(&listing[..kept])
+// What is recorded of a listing. A trait, since of a function that is a parameter its caller would have to show that it may be called.
+pub trait Recorded {
+    // Takes the rest out of a listing, and gives how many bytes are left.
+    fn take_rest_out(listing: &mut [u8]) -> usize;
 }
 
-// Whether opening a chunk, from a reading for its table, and delivering its functions one after the other gives the recorded output,
-// whole or without what the original does not tell.
-pub fn same_output(closed: Reading, s: &[u8], recorded: &[u8], whole: bool) -> bool {
+// The whole listing.
+pub struct Whole;
+
+impl Recorded for Whole {
+    fn take_rest_out(listing: &mut [u8]) -> usize {
+        listing.len()
+    }
+}
+
+// What the original tells.
+pub struct Told;
+
+impl Recorded for Told {
+    fn take_rest_out(listing: &mut [u8]) -> usize {
+        take_untold_out(listing)
+    }
+}
+
+// Whether opening a chunk, from a reading for its table, and delivering its functions one after the other gives the recorded output, which
+// has of each listing what is recorded of it.
+pub fn same_output<R: Recorded>(closed: Reading, s: &[u8], recorded: &[u8]) -> bool {
     let opened = open(closed, s);
     if let Err(refusal) = opened.answer {
         return ends_with(refusal, recorded);
@@ -94,7 +110,11 @@ pub fn same_output(closed: Reading, s: &[u8], recorded: &[u8], whole: bool) -> b
         let Some(listing) = out.get_mut(..count) else {
             return false;
         };
-        let Some(behind) = behind_listing(listing, rest, whole) else {
+        let left = R::take_rest_out(listing);
+        let Some(behind) = out
+            .get(..left)
+            .and_then(|listing| rest.strip_prefix(listing))
+        else {
             return false;
         };
         rest = behind;
@@ -110,5 +130,5 @@ pub fn listed_record(file: &mut impl Read) -> Outcome {
     };
     let mut recorded = [0u8; MOST_OUTPUT];
     let m = read_part(file, &mut recorded)?;
-    Ok(Some(same_output(Reading::new(), &chunk[..n], &recorded[..m], true)))
+    Ok(Some(same_output::<Whole>(Reading::new(), &chunk[..n], &recorded[..m])))
 }

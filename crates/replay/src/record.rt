@@ -18,7 +18,7 @@ pub const MOST_LENGTH: usize = 65537;
 
 const NUMBER_SIZE: usize = 4;
 
-// The number at offset `at`.
+// The number at offset `at`. Rust has no `From` of u32 for usize.
 pub fn number_at(s: &[u8], at: usize) -> usize
     ensures { result < 2 ^ 32 }
 {

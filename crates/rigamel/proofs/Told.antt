@@ -21,6 +21,8 @@ use Rattle.judging.specs.Judge.{Answer, given, refusal, judge, judge_read, judge
 use Rattle.house_loading.specs.Loading.{table_of}
 use Rattle.house_loading.proofs.Found.{load_from}
 use Rattle.judging.specs.Refusal.{refusal_line}
+use Rattle.judging.proofs.Refusals.{line_length}
+use Rattle.judging.proofs.Since.{Since, gives, refuses, judge_since}
 use Rattle.reading.specs.Reading as reading
 use Rattle.reading.specs.Reading.{opening, opened_by, delivery, delivered_by, written, unchanged}
 use Rattle.reading.specs.Loading.{loading, loaded_by}
@@ -28,37 +30,9 @@ use Rattle.rigamel.specs.Numbers.{outcome_of, answer_of, reading_of, numbers_of,
 use Rattle.rigamel.specs.Told.{Told, most_line}
 use Rattle.rigamel.specs.declared.Reading.{Reading}
 
--- ------------------------------------------------------------ no refusal has number 0
-
-data Numbered : Answer → Type 0 where
-  gives : {n : ℕ} → Numbered (given n)
-  refuses : {n f p : ℕ} → 0 < n → Numbered (refusal n f p)
-
-verdict_numbered : (f : ℕ) {v : Verdict} {rest : Answer} → From 7 v → Numbered rest → Numbered (judged f v rest)
-verdict_numbered f not_one h = h
-verdict_numbered f (from_on {n = n} l) h = refuses {n = n} (omega arith)
-
-functions_numbered : (back : ℕ → ℕ) (s : List ℕ) (ps : List Place) (f k : ℕ) → Numbered (judge_from back s ps f k)
-unfolding judge_from
-functions_numbered back s ps f zero = gives
-functions_numbered back s ps f (suc k) = verdict_numbered f (check_from (reworded back (proto_at s ps f))) (functions_numbered back s ps (f + 1) k)
-
-read_numbered : (back : ℕ → ℕ) (s : List ℕ) (ps : List Place) {r : Read} → Later r → Numbered (judge_read back s ps r)
-unfolding judge_read
-read_numbered back s ps goes_on = functions_numbered back s ps 0 (length ps)
-read_numbered back s ps (later {n = n} l) = refuses {n = n} (omega arith)
-
-judge_numbered : (back : ℕ → ℕ) (s : List ℕ) → Numbered (judge back s)
-unfolding judge
-judge_numbered back s = go (ltb 65536 (length s)) refl
-  where
-    go : (b : Bool) → ltb 65536 (length s) ≡ b → Numbered (judge_read back s (walk s).places (walk s).read)
-    go true e = unfold judge_read in rw (long_refused s (ltb-true 65536 (length s) e)) (refuses {n = 1} (omega arith))
-    go false e = read_numbered back s (walk s).places (short_later s (omega (arith, ltb-false 65536 (length s) e)))
-
 -- ------------------------------------------------------------ numbers read back
 
-answer_back : (a : Answer) → Numbered a → answer_of (answer_numbers a) ≡ a
+answer_back : (a : Answer) → Since 1 a → answer_of (answer_numbers a) ≡ a
 unfolding answer_numbers
 answer_back (given n) gives = refl
 answer_back (refusal n f p) (refuses l) = let e : eqb n 0 ≡ false = ne_eqb n 0 (λ z. omega arith) in rw e
@@ -73,7 +47,7 @@ reading_kept r = λ i. record { opened = held r.opened i; next = r.next; table =
 
 -- ------------------------------------------------------------ openings
 
-opened_back : (table out : List ℕ) (a : Answer) → Numbered a
+opened_back : (table out : List ℕ) (a : Answer) → Since 1 a
     → outcome_of (numbers_of 1 (record { answer = a; reading = opened_by table a; output = out }))
     ≡ record { answer = a; reading = opened_by table a; output = out }
 unfolding opened_by
@@ -113,7 +87,7 @@ module _ (r : Reading) (s out : List ℕ) where
       rw e (by_room bytes h (leb (length bytes) (length out)) refl)
   by_count n h false e = rw e (stays {n = 32} (omega arith))
 
-  by_judgement : (a : Answer) → Numbered a → ltb 0 r.opened ≡ true → Ended (delivered_by (reading_of r) s out a)
+  by_judgement : (a : Answer) → Since 1 a → ltb 0 r.opened ≡ true → Ended (delivered_by (reading_of r) s out a)
   unfolding delivered_by
   by_judgement (given n) k h = by_count n h (ltb r.next n) refl
   by_judgement (refusal n f p) (refuses l) h = stays l
@@ -124,7 +98,7 @@ module _ (r : Reading) (s out : List ℕ) where
     where
       go : (b : Bool) → ltb 0 r.opened ≡ b
           → Ended (cond b (delivered_by (reading_of r) s out (judge (word_back r.table) s)) (unchanged (reading_of r) out (refusal 31 r.next 0)))
-      go true e = by_judgement (judge (word_back r.table) s) (judge_numbered (word_back r.table) s) e
+      go true e = by_judgement (judge (word_back r.table) s) (judge_since (word_back r.table) s) e
       go false e = stays {n = 31} (omega arith)
 
   -- what stands for open says so again
@@ -151,24 +125,6 @@ module _ (r : Reading) (s out : List ℕ) where
   refused_keeps o (goes l) h = absurd (h refl)
 
 -- ------------------------------------------------------------ the line of a refusal
-
-digits_few : (k x : ℕ) (ds : List ℕ) → length (digits k x ds) ≤ k + length ds
-unfolding digits
-digits_few zero x ds = omega arith
-digits_few (suc k) x ds = go (ltb x 10) (digits_few k (x / 10) (digit (x % 10) ∷ ds))
-  where
-    go : (b : Bool) → length (digits k (x / 10) (digit (x % 10) ∷ ds)) ≤ k + suc (length ds)
-        → length (cond b (digit x ∷ ds) (digits k (x / 10) (digit (x % 10) ∷ ds))) ≤ suc k + length ds
-    go true h = omega arith
-    go false h = omega arith
-
-column_few : (x : ℕ) → length (column x) ≤ 20
-unfolding column decimal
-column_few x = simp (length-append, length-replicate) (omega (arith, digits_few 20 x []))
-
-line_few : (n f p : ℕ) → length (refusal_line n f p) ≤ most_line
-unfolding line flat_map
-line_few n f p = simp length-append (omega (arith, column_few n, column_few f, column_few p))
 
 puts_first : (l : List ℕ) (i b : ℕ) (bs : List ℕ) → suc i ≤ largest_usize
     → (puts (output l i) (b ∷ bs)).bytes ≡ (puts (output (set l i b) (suc i)) bs).bytes
@@ -199,11 +155,11 @@ pub told : Told
 unfolding opening
 told = record {
   loaded = λ r s out. ended_back r s out (loading (reading_of r) s out) (load_ended r s out);
-  opened = λ r s out. opened_back r.table out (judge (word_back r.table) s) (judge_numbered (word_back r.table) s);
+  opened = λ r s out. opened_back r.table out (judge (word_back r.table) s) (judge_since (word_back r.table) s);
   delivered = λ r s out. ended_back r s out (delivery (reading_of r) s out) (ended r s out);
   load_refused = λ r s out h. (refused_keeps r s out (loading (reading_of r) s out) (load_ended r s out) h).0;
   refused = λ r s out. refused_keeps r s out (delivery (reading_of r) s out) (ended r s out);
-  line_short = line_few;
-  line_counted = λ out n f p. puts_count out (refusal_line n f p) (omega (arith, line_few n f p));
-  line_cut = λ out n f p. puts_cut out (refusal_line n f p) (omega (arith, line_few n f p));
+  line_short = line_length;
+  line_counted = λ out n f p. puts_count out (refusal_line n f p) (omega (arith, line_length n f p));
+  line_cut = λ out n f p. puts_cut out (refusal_line n f p) (omega (arith, line_length n f p));
 }

@@ -21,7 +21,7 @@ use reading::open;
 const OPEN: u32 = 1;
 
 // A reading, which the caller keeps: whether it is open (0 closed, any other number open), the function whose listing comes next, and the
-// house table, of whatever numbers.
+// house table, of whatever numbers. A caller in C may put any number anywhere, so that nothing here is a bool or an enum.
 #[repr(C)]
 #[derive(Clone, Copy)]
 pub struct Reading {
@@ -31,7 +31,7 @@ pub struct Reading {
 }
 
 // An answer. Number 0 is no refusal: then `length` is the count of functions, or of a delivery the listing's length. Any other
-// number is a refusal's, with its function and place. What does not apply is 0.
+// number is a refusal's, with its function and place. What does not apply is 0. C has no Result: include/rigamel.h has these four numbers.
 #[repr(C)]
 #[derive(Clone, Copy)]
 pub struct Answer {
@@ -84,7 +84,8 @@ pub extern "C" fn rigamel_deliver(s: &[u8], out: &mut [u8], reading: &mut Readin
     Answer::from(delivered.answer)
 }
 
-// Prints the X line of a refusal from the output's start, as far as the output goes, and gives the length of the whole line.
+// Prints the X line of a refusal from the output's start, as far as the output goes, and gives the length of the whole line. C's numbers
+// have 64 bits on every machine, and Rust has no `From` between u64 and usize.
 #[unsafe(no_mangle)]
 pub extern "C" fn rigamel_print_refusal(
     out: &mut [u8],

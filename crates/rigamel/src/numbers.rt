@@ -1,4 +1,4 @@
-// Readings and answers in numbers.
+// Readings and answers in numbers, of 64 bits where C reads them: Rust has no `From` between u64 and usize.
 ghost use Rattle.std.specs.Prelude.{◌≡◌};
 ghost use Rattle.judging.specs.Answers.{answer_of};
 ghost use Rattle.reading.specs.Opening.{reading_of};

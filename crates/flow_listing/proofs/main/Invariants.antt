@@ -7,4 +7,4 @@ use Rattle.flow_listing.specs.Run.{Reached}
 use Rattle.flow_listing.proofs.main.Given as goal
 
 abbrev pub invariant-loop-k : goal.invariant-loop-k
-invariant-loop-k l = Reached l.s l.judged l.functions l.k-iterator.start × (buffer ≡ length l.out) × (run_numbers ≡ length l.run)
+invariant-loop-k l = Reached l.chunk.bytes.now l.judged l.chunk.functions.now l.k-iterator.start × (buffer ≡ length l.out) × (run_numbers ≡ length l.run)

@@ -3,4 +3,4 @@ use Rattle.house_table.proofs.Inverse.{by_opcode}
 use Rattle.house_table.proofs.word_back.Goals as goal
 
 pub returns : goal.returns
-returns c = by_opcode _ _ c.at_or.ensures c.from.ensures
+returns c = by_opcode c.args.inverse.now c.args.word c.at_or.result (cc) (cc) (cc)

@@ -29,7 +29,7 @@ returns g c =
     let ln : length r.nested ≡ most_functions = search rules in
     let lu : length r.nups ≡ most_functions = search rules in
     let h = holds_function q.whole q.f_lt_count q.fits lw lk ln lu loads in
-    let size = reworded_size (word_by a.inverse.now) (proto_at a.s.now (walk a.s.now).places a.f) in
+    let size = reworded_size (word_by a.inverse.now) (proto_at a.chunk.bytes.now (walk a.chunk.bytes.now).places a.f) in
     let leaders : marks ≤ length r.leaders = search rules in
     let targets : marks ≤ length r.targets = search rules in
     c.check.ensures.result_value _ (stands_function q.whole q.f_lt_count q.fits lw lk ln lu loads) h.lines

@@ -7,4 +7,4 @@ use Rattle.judging.specs.Judge.{judge_from, judge}
 use Rattle.judging.proofs.judge_with.Given as goal
 
 abbrev pub invariant-loop-f : goal.invariant-loop-f
-invariant-loop-f g l = judge_from (word_by l.inverse) l.s (walk l.s).places l.f (l.count - l.f) ≡ judge (word_by l.inverse) l.s
+invariant-loop-f g l = judge_from (word_by l.inverse) l.chunk.bytes.now (walk l.chunk.bytes.now).places l.f-counter (l.count - l.f-counter) ≡ judge (word_by l.inverse) l.chunk.bytes.now

@@ -18,21 +18,21 @@ unfolding op_of statements_by run count exprs expr
 returns-in-0-clause-result_after c =
     λ p i d le h.
     let first = sole h (rw c.in-0.is) in
-    rw (c.in-0.is, first, ← d.a, ← d.b) c.set_register.ensures
+    rw (c.in-0.is, first, ← d.a, ← d.b, ← c.from-a.ensures, ← c.from-b.ensures) c.set_register.ensures
 
 pub returns-in-1-clause-result_after : goal.returns-in-1-clause-result_after
 unfolding op_of statements_by run count exprs expr
 returns-in-1-clause-result_after c =
     λ p i d le h.
     let first = sole h (rw c.in-1.is) in
-    rw (c.in-1.is, first, ← d.a, ← d.bx) c.set_register-in-1.ensures
+    rw (c.in-1.is, first, ← d.a, ← d.bx, ← c.from-a.ensures) c.set_register-in-1.ensures
 
 pub returns-in-2-clause-result_after : goal.returns-in-2-clause-result_after
 unfolding op_of statements_by run count exprs expr
 returns-in-2-clause-result_after c =
     λ p i d le h.
     let first = sole h (rw c.in-2.is) in
-    rw (c.in-2.is, first, ← d.a, ← d.b) c.set_register-in-2.ensures
+    rw (c.in-2.is, first, ← d.a, ← d.b, ← c.from-a.ensures, ← c.from-b.ensures) c.set_register-in-2.ensures
 
 pub returns-in-3-clause-result_after : goal.returns-in-3-clause-result_after
 unfolding op_of statements_by run count exprs expr
@@ -43,21 +43,21 @@ returns-in-3-clause-result_after c =
     let sets : ℕ → Stmt = λ r. set_register r nil in
     let below : k < length (over (λ r. only (sets r)) (arg_a p i) many) = rw c.in-3.is at h in
     let at = over_at sets (arg_a p i) many k (close []) (omega (arith, over_length sets (arg_a p i) many)) in
-    rw (c.in-3.is, at, ← d.a) c.set_register-in-3.ensures
+    rw (c.in-3.is, at, ← d.a, ← c.from-a.ensures) (rw c.from.ensures at c.set_register-in-3.ensures)
 
 pub returns-in-4-clause-result_after : goal.returns-in-4-clause-result_after
 unfolding op_of statements_by run count exprs expr
 returns-in-4-clause-result_after c =
     λ p i d le h.
     let first = sole h (rw c.in-4.is) in
-    rw (c.in-4.is, first, ← d.a, ← d.b) c.set_register-in-4.ensures
+    rw (c.in-4.is, first, ← d.a, ← d.b, ← c.from-a.ensures, ← c.from-b.ensures) c.set_register-in-4.ensures
 
 pub returns-in-5-clause-result_after : goal.returns-in-5-clause-result_after
 unfolding op_of statements_by run count exprs expr
 returns-in-5-clause-result_after c =
     λ p i d le h.
     let first = sole h (rw c.in-5.is) in
-    rw (c.in-5.is, first, ← d.a, ← d.bx) c.set_register-in-5.ensures
+    rw (c.in-5.is, first, ← d.a, ← d.bx, ← c.from-a.ensures) c.set_register-in-5.ensures
 
 pub returns-in-6-clause-result_after : goal.returns-in-6-clause-result_after
 unfolding op_of statements_by
@@ -71,14 +71,14 @@ unfolding op_of statements_by run count exprs expr
 returns-in-7-clause-result_after c =
     λ p i d le h.
     let first = sole h (rw c.in-7.is) in
-    rw (c.in-7.is, first, ← d.a, ← d.bx) c.push_all.ensures
+    rw (c.in-7.is, first, ← d.a, ← d.bx, ← c.from-a.ensures) c.push_all.ensures
 
 pub returns-in-8-clause-result_after : goal.returns-in-8-clause-result_after
 unfolding op_of statements_by run count exprs expr
 returns-in-8-clause-result_after c =
     λ p i d le h.
     let first = sole h (rw c.in-8.is) in
-    rw (c.in-8.is, first, ← d.a, ← d.b) c.push_all-in-8.ensures
+    rw (c.in-8.is, first, ← d.a, ← d.b, ← c.from-a.ensures, ← c.from-b.ensures) c.push_all-in-8.ensures
 
 pub returns-in-9-clause-result_after : goal.returns-in-9-clause-result_after
 unfolding op_of statements_by
@@ -92,7 +92,7 @@ unfolding op_of statements_by run count exprs expr
 returns-in-10-clause-result_after c =
     λ p i d le h.
     let first = sole h (rw c.in-10.is) in
-    rw (c.in-10.is, first, ← d.a) c.set_register-in-10.ensures
+    rw (c.in-10.is, first, ← d.a, ← c.from-a.ensures) c.set_register-in-10.ensures
 
 pub returns-in_default-clause-result_after : goal.returns-in_default-clause-result_after
 unfolding op_of statements_by

@@ -6,4 +6,4 @@ use Rattle.lua51_assignments.proofs.get_table.Goals as goal
 
 pub returns : goal.returns
 unfolding expr
-returns c = rw set_numbers (then c.set_register.ensures c.push_operand.ensures)
+returns c = rw set_numbers (then (rw (c.from.ensures, c.from-2.ensures) at c.set_register.ensures) c.push_operand.ensures)

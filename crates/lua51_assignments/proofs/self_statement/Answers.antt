@@ -7,7 +7,7 @@ use Rattle.lua51_assignments.proofs.self_statement.Goals as goal
 
 pub returns-then-k-eq0-clause-result_after : goal.returns-then-k-eq0-clause-result_after
 unfolding statements_by run count exprs expr
-returns-then-k-eq0-clause-result_after c = λ p i d h. rw (c.if-k-eq0.true, ← d.a, ← d.b) c.set_register.ensures
+returns-then-k-eq0-clause-result_after c = λ p i d h. rw (c.if-k-eq0.true, ← d.a, ← d.b) (rw (c.from.ensures, c.from-then-k-eq0.ensures) at c.set_register.ensures)
 
 pub returns-clause-result_after : goal.returns-clause-result_after
 unfolding statements_by

@@ -9,4 +9,4 @@ pub returns : goal.returns
 unfolding run count exprs expr
 returns c =
     rw (append-nil (expr (rk c.args.w.b)), append-nil (expr (rk c.args.w.c)))
-    (then c.push_all.ensures (then c.push_operand.ensures c.push_operand-2.ensures))
+    (then (rw c.from.ensures at c.push_all.ensures) (then c.push_operand.ensures c.push_operand-2.ensures))

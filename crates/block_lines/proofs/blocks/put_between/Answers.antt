@@ -1,8 +1,9 @@
 -- `put_between`: its B line, its assignment, its edge. Assumes nothing.
 use native.Mathlib.Omega.{arith}
-use mathlib.Core.Path.{◌≡◌, refl, ◌∙◌, sym, ap}
+use mathlib.Core.Path.{refl, ◌∙◌, sym, ap}
 use lib.ListN.{length}
 use borrow.Author.Tests.{lt-ltb}
+use Rattle.lua51_instruction.specs.Proto.{size}
 use Rattle.lines.proofs.Puts.{puts_nothing, puts_then, puts_prints, prints_nothing}
 use Rattle.cfg.specs.Graph.{then_of}
 use Rattle.cfg.proofs.Entering.{diverted_loop}
@@ -28,8 +29,7 @@ returns-clause-result_after c =
     λ p ok roomy lt.
     let read = between_read p ns ok.notes a.i (omega arith) c.between_at.ensures c.in-Some.is in
     let starts = then_starts p a.i (diverted_loop p a.i read.0) in
-    let t : c.then_of.result ≡ then_of p a.i = c.then_of.ensures p ok.words ∙ rw (lt-ltb _ _ lt) in
-    let block = block_read p ns ok.notes (then_of p a.i) starts.inside starts.leads (rw t at c.block_at.ensures) c.unwrap_or-to.ensures in
+    let block = block_read p ns ok.notes (then_of p a.i) starts.inside starts.leads (c.then_block.ensures p ok.words ∙ rw (lt-ltb a.i (size p) lt)) c.unwrap_or-to.ensures in
     between_printed p a.i c.in-Some.number (length a.drawn.now.function.words.now) c.unwrap_or-to.result (length a.run.now)
     read.0 roomy read.1 (sym (ap length ok.words)) block
     c.put_block_line.ensures (c.put_on_then.ensures p ok.words) c.put_edge_line.ensures

@@ -1,33 +1,25 @@
--- `fill::note_fronts`: after i words each note is that of the first i words. Assumes nothing.
-use Prim.Native.Nat.{◌<◌}
+-- `fill::note_fronts`: after i words each front is that of the first i words. Assumes nothing.
+use Prim.Native.Nat.{◌+◌}
 use native.Mathlib.Omega.{arith}
-use mathlib.Core.Path.{◌≡◌, ◌∙◌, sym}
-use lib.ListN.{length}
-use Rattle.std.proofs.lemmas.List.{get_or-replicate}
-use Rattle.basics.proofs.Tables.{tabled}
+use mathlib.Core.Path.{◌≡◌, ◌∙◌}
 use Rattle.lua51_instruction.specs.Proto.{size}
-use Rattle.cfg_notes.specs.Notes.{front_note}
-use Rattle.cfg_notes.proofs.Fronts.{front_first, front_turn}
+use Rattle.cfg_notes.specs.Notes.{start_note, between_note, front_among, notes_of}
+use Rattle.cfg_notes.proofs.Fronts.{front_turn}
 use Rattle.cfg_notes.proofs.fill.note_fronts.Goals as goal
 
 pub loop-i-init : goal.loop-i-init
-loop-i-init c =
-    let n = length c.args.fronts.now in
-    λ p e k t lt.
-    let inside : t < n = omega (arith, c.fill.auto.self) in
-    rw (c.fill.ensures.after (λ y z. z)) (get_or-replicate n t 0 0 inside ∙ sym (front_first p t))
+unfolding front_among
+loop-i-init c = λ p e k ns. ns
 
 pub loop-i-preserved : goal.loop-i-preserved
 loop-i-preserved c =
     let l = c.loop-i in
-    let put = c.note_front in
-    λ p e k t lt.
-    let inside : t < length l.fronts = omega (arith, put.auto.fronts) in
-    rw (put.ensures p e k) (front_turn p l.fronts l.i t inside (l.invariant p e k t inside))
+    λ p e k ns. c.note_front.ensures p e k ∙ rw (l.invariant p e k ns) (front_turn p (start_note p) (between_note p) (size p + 1) l.i)
 
 pub returns : goal.returns
+unfolding notes_of
 returns c =
     let l = c.loop-i in
-    λ p e k.
+    λ p e k ns.
     let all : l.i ≡ size p = rw e (omega arith) in
-    tabled (front_note p) l.fronts (length c.args.fronts.now) (omega (arith, c.fill.auto.self)) (λ t lt. rw all at (l.invariant p e k t lt))
+    rw all at (l.invariant p e k ns)

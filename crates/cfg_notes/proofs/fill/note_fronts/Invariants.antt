@@ -1,13 +1,13 @@
--- `fill::note_fronts`: after i words each note is that of the first i words. Assumes nothing.
-use Prim.Native.Nat.{ℕ, ◌<◌}
+-- `fill::note_fronts`: after i words each front is that of the first i words. Assumes nothing.
+use Prim.Native.Nat.{◌+◌}
 use mathlib.Core.Path.{◌≡◌}
-use lib.ListN.{length, get_or}
-use Rattle.lua51_instruction.specs.Proto.{Proto}
+use Rattle.lua51_instruction.specs.Proto.{Proto, size}
 use Rattle.cfg.specs.Arrays.{entrances}
-use Rattle.cfg_notes.specs.Notes.{front_among}
+use Rattle.cfg_notes.specs.Notes.{start_note, between_note, front_among, notes_by, nothing}
 use Rattle.cfg_notes.proofs.fill.note_fronts.Given as goal
 
 abbrev pub invariant-loop-i : goal.invariant-loop-i
 invariant-loop-i l =
-    (p : Proto) → p.words ≡ l.words → l.counts ≡ entrances p
-    → (t : ℕ) → t < length l.fronts → get_or l.fronts t 0 ≡ front_among p t l.i
+    (p : Proto) → p.words ≡ l.entered.words.now → l.entered.counts.now ≡ entrances p
+    → l.initial.notes ≡ notes_by (start_note p) (between_note p) nothing (size p + 1)
+    → l.notes ≡ notes_by (start_note p) (between_note p) (λ t. front_among p t l.i) (size p + 1)

@@ -1,45 +1,31 @@
--- `notes::range_end`: the first leader from the place reached is the first behind j. Assumes nothing.
-use Prim.Native.Nat.{◌<◌, ◌/◌}
-use lib.ListN.{length}
+-- `notes::range_end`: the first note behind j that says a start. Assumes nothing.
+use Prim.Native.Nat.{ℕ, ◌+◌}
 use native.Mathlib.Omega.{arith}
-use mathlib.Core.Path.{◌≡◌, ◌∙◌}
-use Rattle.cfg_notes.proofs.Numbering.{from_here, from_next, from_none, end_last, end_from}
-use Rattle.cfg_notes.proofs.Parts.{start_in, third_is, starts_block, starts_none}
+use mathlib.Core.Path.{◌≡◌, ◌∙◌, sym, ap}
+use lib.ListN.{length}
+use Rattle.lua51_instruction.specs.Proto.{size}
+use Rattle.cfg_notes.proofs.Parts.{notes_length, given, ungiven}
+use Rattle.cfg_notes.proofs.Numbering.{end_last, end_first, end_none}
 use Rattle.cfg_notes.proofs.notes.range_end.Goals as goal
 
 pub returns-then-saturating_sub-le1-clause-value : goal.returns-then-saturating_sub-le1-clause-value
 returns-then-saturating_sub-le1-clause-value c =
     let a = c.args in
-    λ p e le. end_last p a.j (omega (arith, third_is p a.notes.now e))
-
-pub returns-then-notes-end-ne0-clause-value : goal.returns-then-notes-end-ne0-clause-value
-returns-then-notes-end-ne0-clause-value c =
-    let a = c.args in
-    let past = length a.notes.now / 3 in
-    let end = c.loop-end.end in
-    let lt : end < past = c.loop-end-test.true in
     λ p e le.
-    let n = third_is p a.notes.now e in
-    let leads = starts_block p a.notes.now e end _ (start_in a.notes.now end lt) (omega arith) c.if-notes-end-ne0.true in
-    end_from p past a.j end n (omega arith) (c.loop-end.invariant p e) (from_here p past end lt leads)
+    let long : length a.notes.now ≡ size p + 1 = rw e (notes_length p) in
+    end_last p a.j (omega arith)
 
-pub loop-end-preserved : goal.loop-end-preserved
-loop-end-preserved c =
+pub returns-in-Some-clause-value : goal.returns-in-Some-clause-value
+returns-in-Some-clause-value c =
     let a = c.args in
-    let past = length a.notes.now / 3 in
-    let end = c.loop-end.end in
-    let lt : end < past = c.loop-end-test.true in
-    λ p e.
-    let n = third_is p a.notes.now e in
-    let none = starts_none p a.notes.now e end _ (start_in a.notes.now end lt) (omega arith) c.if-notes-end-ne0.false in
-    from_next p past end lt none ∙ c.loop-end.invariant p e
-
-pub returns-clause-value : goal.returns-clause-value
-returns-clause-value c =
-    let a = c.args in
-    let past = length a.notes.now / 3 in
-    let end = c.loop-end.end in
     λ p e le.
-    let n = third_is p a.notes.now e in
-    let all : past ≡ end = omega arith in
-    all ∙ end_from p past a.j end n (omega arith) (c.loop-end.invariant p e) (from_none p past end c.loop-end-test.false)
+    let long : length a.notes.now ≡ size p + 1 = rw e (notes_length p) in
+    let found = given _ (sym c.in-Some.is ∙ c.first_start.ensures) in
+    ap {B = ℕ} (λ (k : ℕ). a.j + 1 + k) found.1 ∙ end_first p a.j a.notes.now e (omega arith)
+
+pub returns-in-None-clause-value : goal.returns-in-None-clause-value
+returns-in-None-clause-value c =
+    let a = c.args in
+    λ p e le.
+    let long : length a.notes.now ≡ size p + 1 = rw e (notes_length p) in
+    end_none p a.j a.notes.now e (omega arith) (ungiven _ _ (sym c.in-None.is ∙ c.first_start.ensures))

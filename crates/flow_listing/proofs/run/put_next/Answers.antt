@@ -13,7 +13,7 @@ use Rattle.flow_listing.proofs.run.put_next.Goals as goal
 
 pub returns-then-length-gt-PROGRAM_BUFFER : goal.returns-then-length-gt-PROGRAM_BUFFER
 returns-then-length-gt-PROGRAM_BUFFER c =
-    let bytes = listing_of by_lua c.args.s.now c.args.f in
+    let bytes = listing_of by_lua c.args.chunk.bytes.now c.args.f in
     let few : length c.args.out.now ≤ largest_usize = search rules in
     let runs = c.requires.run_numbers_in_bounds in
     let e = listed _ _ _ c.requires.listable _ c.lua.ensures c.put_function-length.ensures runs in
@@ -25,7 +25,7 @@ returns-then-length-gt-PROGRAM_BUFFER c =
 
 pub returns : goal.returns
 returns c =
-    let bytes = listing_of by_lua c.args.s.now c.args.f in
+    let bytes = listing_of by_lua c.args.chunk.bytes.now c.args.f in
     let few : length c.args.out.now ≤ largest_usize = search rules in
     let runs = c.requires.run_numbers_in_bounds in
     let e = listed _ _ _ c.requires.listable _ c.lua.ensures c.put_function-length.ensures runs in

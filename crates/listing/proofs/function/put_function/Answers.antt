@@ -1,9 +1,9 @@
 -- `put_function`: in short or long room, by the inverse of the table. Assumes nothing.
--- the table has a number for each opcode
 use Rattle.listing.proofs.Loading.{lists_by, words_most}
 use mathlib.Core.Path.{◌≡◌}
 use lib.ListN.{length}
 use Rattle.house_table.specs.House.{opcode_count}
+use native.Mathlib.Omega.{arith}
 use Rattle.std.proofs.Common.{rules}
 use Rattle.listing.proofs.function.put_function.Goals as goal
 
@@ -21,4 +21,7 @@ returns c =
 pub put_with-requires-2-clause-words : goal.put_with-requires-2-clause-words
 put_with-requires-2-clause-words c =
     let a = c.args in
-    λ end walked below. words_most a.s.now a.functions a.f end walked below
+    λ end walked below. words_most a.chunk.bytes.now a.chunk.functions.now a.f end walked below
+
+pub put_with-requires-clause-words : goal.put_with-requires-clause-words
+put_with-requires-clause-words c = λ end walked below. omega arith

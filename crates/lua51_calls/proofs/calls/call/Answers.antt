@@ -22,5 +22,5 @@ returns c p st =
     let many : arg_c p i ≡ c.c_of-c.result = rw is (sym c.c_of-c.ensures) in
     let left : arg_a p i ≡ c.a_of.result = rw is (sym c.a_of.ensures) in
     rw (ne_eqb (arg_c p i) 1 (λ z. c.if-c-eq1.false (sym many ∙ z)), assign_numbers, many, ← c.saturating_sub.ensures)
-    (then (rw (← left) at c.push_lefts.ensures)
+    (then (rw (c.from.ensures, ← left) at c.push_lefts.ensures)
     (then c.push-2.ensures (c.push_call-2.ensures p st)))

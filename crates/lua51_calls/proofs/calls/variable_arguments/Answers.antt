@@ -6,4 +6,4 @@ use Rattle.lua51_calls.proofs.calls.variable_arguments.Goals as goal
 
 pub returns : goal.returns
 unfolding expr
-returns c = rw (assign_numbers, ← c.saturating_sub.ensures) (then c.push_lefts.ensures c.push_all.ensures)
+returns c = rw (assign_numbers, ← c.saturating_sub.ensures) (then (rw c.from.ensures at c.push_lefts.ensures) c.push_all.ensures)

@@ -9,4 +9,4 @@ pub returns : goal.returns
 unfolding expr
 returns c p st =
     let is : word p c.args.i ≡ c.at_or.result = rw st (sym c.at_or.ensures) in
-    rw (is, ← c.a_of-a.ensures) (then c.push_all.ensures (c.push_taken.ensures p st))
+    rw (is, ← c.a_of-a.ensures) (then c.push_callee.ensures (rw c.from.ensures at c.push_taken.ensures p st))

@@ -5,4 +5,4 @@ use Rattle.lua51_calls.proofs.results.push_closed_call.Goals as goal
 
 pub returns : goal.returns
 unfolding expr
-returns c = then c.push_all.ensures c.push_counted.ensures
+returns c = then c.push_callee.ensures (rw c.from.ensures at c.push_counted.ensures)

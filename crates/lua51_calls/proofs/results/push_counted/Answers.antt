@@ -6,4 +6,4 @@ use Rattle.lua51_calls.proofs.results.push_counted.Goals as goal
 pub returns : goal.returns
 returns c =
     rw (count_registers_alone, ← c.saturating_sub-count.ensures)
-    (then c.push.ensures c.push_registers.ensures)
+    (then (rw c.from.ensures at c.push.ensures) c.push_registers.ensures)

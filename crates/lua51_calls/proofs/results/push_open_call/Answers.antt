@@ -3,4 +3,4 @@ use Rattle.ast.proofs.Written.{then}
 use Rattle.lua51_calls.proofs.results.push_open_call.Goals as goal
 
 pub returns : goal.returns
-returns c = then c.push_all.ensures c.push_below.ensures
+returns c = then c.push_callee.ensures (rw c.from.ensures at c.push_below.ensures)

@@ -5,7 +5,7 @@ use lib.ListN.{length}
 use Rattle.std.proofs.lemmas.Result.{err_from_is_err_and}
 use Rattle.lua51_function.proofs.Standing.{standing, stands}
 use Rattle.lua51_lifter.specs.Check.{first_refusal, line_verdict}
-use Rattle.lua51_checker.proofs.Judging.{words_decide, uses_decide, lines_decide, found_words}
+use Rattle.lua51_checker.proofs.Judging.{words_decide, uses_decide, lines_decide, found_refused}
 use Rattle.lua51_checker.proofs.check.check.Goals as goal
 
 pub returns-in_err-check_words-clause-result_value : goal.returns-in_err-check_words-clause-result_value
@@ -19,7 +19,7 @@ returns-in_err-check_words-clause-anyway c =
     let r = err_from_is_err_and c.from_residual.result c.from_residual.ensures.1 in
     let p = standing s.head s.words.now s.kinds.now s.nested.now s.nups.now in
     rw (r.1, r.2)
-    (found_words p _ _ (c.in_err-check_words.ensures p (stands s.head s.words.now s.kinds.now s.nested.now s.nups.now)))
+    (found_refused p _ _ (c.in_err-check_words.ensures p (stands s.head s.words.now s.kinds.now s.nested.now s.nups.now)))
 
 pub returns-in_err-check_uses-clause-result_value : goal.returns-in_err-check_uses-clause-result_value
 returns-in_err-check_uses-clause-result_value c =

@@ -11,4 +11,4 @@ use Rattle.lua51_function.proofs.function.fill_words.Given as goal
 abbrev pub invariant-loop-i : goal.invariant-loop-i
 invariant-loop-i l =
     let all = map (word_by l.inverse) (ints l.s (words_of l.s l.start + 4) (int_at l.s (words_of l.s l.start))) in
-    Filling l.i all (drop l.i all) l.initial.words l.words
+    Filling l.i all (drop l.i all) l.initial.word-items l.word-items

@@ -8,4 +8,4 @@ pub returns-in-Arguments : goal.returns-in-Arguments
 unfolding operand
 returns-in-Arguments c =
     let a = c.args in
-    λ p i s d. rw c.in-Arguments.is (cc (run_fits 1 a.fields.a a.x a.subject.now.head.stack (omega arith)))
+    λ p i ws us s d. rw c.in-Arguments.is (cc (run_fits 1 a.fields.a a.x a.subject.now.head.stack (omega arith)))

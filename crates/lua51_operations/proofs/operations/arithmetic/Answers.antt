@@ -6,7 +6,7 @@ use Rattle.lua51_operations.proofs.operations.arithmetic.Goals as goal
 
 pub returns : goal.returns
 returns c =
-    let written = then c.set_register.ensures c.push_binary.ensures in
+    let written = then (rw c.from.ensures at c.set_register.ensures) c.push_binary.ensures in
     record {
       result_after = λ p i d lo hi.
           rw (arithmetic_is p i c.args.w.opcode lo hi, set_numbers, ← d.a, ← d.b, ← d.c, ← c.operator_of.ensures) written;

@@ -19,11 +19,11 @@ returns-in-25-clause-result_after c = λ p i d lo hi. rw (c.in-25.is, ← d.a, �
 
 pub returns-in-26-clause-result_after : goal.returns-in-26-clause-result_after
 unfolding op_of statements_by
-returns-in-26-clause-result_after c = λ p i d lo hi. rw (c.in-26.is, ← d.c, ← d.a) c.truth.ensures
+returns-in-26-clause-result_after c = λ p i d lo hi. rw (c.in-26.is, ← d.c, ← d.a) (rw c.from.ensures at c.truth.ensures)
 
 pub returns-in_default-clause-result_after : goal.returns-in_default-clause-result_after
 unfolding op_of statements_by
 returns-in_default-clause-result_after c =
     λ p i d lo hi.
     let last : c.args.w.opcode ≡ 27 = omega arith in
-    rw (last, ← d.c, ← d.b) c.truth-in_default.ensures
+    rw (last, ← d.c, ← d.b) (rw c.from-in_default.ensures at c.truth-in_default.ensures)

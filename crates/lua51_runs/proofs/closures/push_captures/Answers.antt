@@ -13,7 +13,7 @@ loop-k-preserved c =
     let i = c.args.i in
     let near : c.min.result ≡ min (length p.words) (min (i + 1) 18446744073709551615) = rw (ws, ← c.saturating_add.ensures) c.min.ensures in
     let is : word p (i + (l.k + 1)) ≡ c.at_or-word.result = word_behind p i l.k _ _ near (rw ws (omega arith)) ∙ rw (ws, c.at_or-word.ensures, take_rest) in
-    turned (l.invariant p ws) (rw (c.capture_kind.ensures, c.b_of.ensures, ← is) at c.push_all.ensures)
+    turned (l.invariant p ws) (rw (c.capture_kind.ensures, c.from.ensures, c.b_of.ensures, ← is) at c.push_all.ensures)
     (captures_turn p (i + l.k) (i + (l.k + 1)) _ _ (omega arith) (omega arith))
 
 pub returns : goal.returns

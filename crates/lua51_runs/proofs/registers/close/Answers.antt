@@ -7,11 +7,11 @@ use Rattle.lua51_runs.proofs.Assigned.{range_turn, range_done}
 use Rattle.lua51_runs.proofs.registers.close.Goals as goal
 
 pub loop-register-preserved : goal.loop-register-preserved
-loop-register-preserved c = turned c.loop-register.invariant c.push.ensures (range_turn _ _ _ (omega arith))
+loop-register-preserved c = turned c.loop-register.invariant (rw c.from-in-loop-register.ensures at c.push.ensures) (range_turn _ _ _ (omega arith))
 
 pub returns : goal.returns
 unfolding run
 returns c =
     let a = c.args in
     rw (over_length (λ r. r) a.first (a.stack - a.first))
-    (then (rw c.saturating_sub-count.ensures at c.push_all.ensures) (done c.loop-register.invariant (range_done _ _ (omega arith))))
+    (then (rw (c.from.ensures, c.saturating_sub-count.ensures) at c.push_all.ensures) (done c.loop-register.invariant (range_done _ _ (omega arith))))

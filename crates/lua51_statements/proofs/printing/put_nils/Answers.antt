@@ -11,13 +11,13 @@ use Rattle.lua51_statements.proofs.printing.put_nils.Goals as goal
 pub returns-then-i-le-MOST_IN_COLUMNS : goal.returns-then-i-le-MOST_IN_COLUMNS
 returns-then-i-le-MOST_IN_COLUMNS c =
     let a = c.args in
-    puts_skipped (flat_map statement_line (naming a.i a.opcode (nils a.first a.count))) c.skip.ensures
+    puts_skipped (flat_map statement_line (naming a.i a.opcode (nils a.first a.count))) (rw c.from.ensures at c.skip.ensures)
     (nils_length a.i a.opcode a.first a.count c.if-i-le-MOST_IN_COLUMNS.true (search rules) (search rules)) (search rules)
 
 pub loop-r-init : goal.loop-r-init
 loop-r-init c =
     let a = c.args in
-    let none : a.first - a.first ≡ 0 = omega arith in
+    let none : c.from-first.result - a.first ≡ 0 = omega arith in
     record { from_first = search rules; printed = rw none (nils_start a.i a.opcode a.out.now a.first) }
 
 pub loop-r-preserved : goal.loop-r-preserved

@@ -14,21 +14,21 @@ unfolding on_then brought
 returns-in-27 c p ws =
     let is : word p c.args.i ≡ c.at_or-word.result = rw ws (sym c.at_or-word.ensures) in
     let o : opcode p c.args.i ≡ 27 = rw is (sym c.opcode_of-opcode.ensures ∙ c.in-27.is) in
-    rw (o, is, ← c.in-27.is, ← c.a_of-a.ensures, ← c.b_of.ensures) c.put_move.ensures
+    rw (o, is, ← c.in-27.is, ← c.a_of.ensures, ← c.from-a.ensures, ← c.b_of.ensures, ← c.from.ensures) c.put_move.ensures
 
 pub returns-in-31 : goal.returns-in-31
 unfolding on_then brought
 returns-in-31 c p ws =
     let is : word p c.args.i ≡ c.at_or-word.result = rw ws (sym c.at_or-word.ensures) in
     let o : opcode p c.args.i ≡ 31 = rw is (sym c.opcode_of-opcode.ensures ∙ c.in-31.is) in
-    rw (o, is, ← c.in-31.is, ← c.a_of-a.ensures) c.put_move-in-31.ensures
+    rw (o, is, ← c.in-31.is, ← c.a_of.ensures, ← c.from-a.ensures) c.put_move-in-31.ensures
 
 pub returns-in-33 : goal.returns-in-33
 unfolding on_then brought
 returns-in-33 c p ws =
     let is : word p c.args.i ≡ c.at_or-word.result = rw ws (sym c.at_or-word.ensures) in
     let o : opcode p c.args.i ≡ 33 = rw is (sym c.opcode_of-opcode.ensures ∙ c.in-33.is) in
-    rw (o, is, ← c.in-33.is, ← c.a_of-a.ensures) c.put_move-in-33.ensures
+    rw (o, is, ← c.in-33.is, ← c.a_of.ensures, ← c.from-a.ensures) c.put_move-in-33.ensures
 
 pub returns-in_default : goal.returns-in_default
 unfolding on_then brought naming flat_map

@@ -43,7 +43,7 @@ loop-k-preserved c =
       printed = λ p ks st.
           let is : word p a.i ≡ c.at_or-word.result = rw st.words (sym c.at_or-word.ensures) in
           let has : l.k < length (own_statements p a.i) = rw (← c.statement_count-count.ensures p a.i is) c.loop-k-test.true in
-          let says = held c.new-written.ensures.empty (c.statement.ensures p ks st has) in
+          let says = held c.new-written.ensures.empty (c.statement.ensures p st.words st.nested st.nups st.stack has) in
           let same : proto.opcode p a.i ≡ c.opcode_of-opcode.result = rw is (sym c.opcode_of-opcode.ensures) in
           let f = line_within (length a.run.now) in
           named_turn f a.i (proto.opcode p a.i) (own_statements p a.i) (close []) l.k (l.invariant.printed p ks st)

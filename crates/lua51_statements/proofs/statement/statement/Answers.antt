@@ -10,9 +10,9 @@ use Rattle.lua51_statements.proofs.Counts.{at_most_one}
 use Rattle.lua51_statements.proofs.statement.statement.Goals as goal
 
 pub returns-then-opcode-le-CONCAT : goal.returns-then-opcode-le-CONCAT
-returns-then-opcode-le-CONCAT c p ks st h =
+returns-then-opcode-le-CONCAT c p words nested nups stack h =
     let i = c.args.i in
-    let d : FieldsOf (word p i) c.fields_of-w.result = rw (st.words, ← c.at_or.ensures) c.fields_of-w.ensures in
+    let d : FieldsOf (word p i) c.fields_of-w.result = rw (words, ← c.at_or.ensures) c.fields_of-w.ensures in
     let below = rw (← d.opcode) at h in
     let o = c.fields_of-w.result.opcode in
     let past = c.if-opcode-le-SELF.false in
@@ -22,9 +22,9 @@ returns-then-opcode-le-CONCAT c p ks st h =
 
 pub returns-then-opcode-le-TESTSET : goal.returns-then-opcode-le-TESTSET
 unfolding op_of statements_by
-returns-then-opcode-le-TESTSET c p ks st h =
+returns-then-opcode-le-TESTSET c p words nested nups stack h =
     let i = c.args.i in
-    let d : FieldsOf (word p i) c.fields_of-w.result = rw (st.words, ← c.at_or.ensures) c.fields_of-w.ensures in
+    let d : FieldsOf (word p i) c.fields_of-w.result = rw (words, ← c.at_or.ensures) c.fields_of-w.ensures in
     let below = rw (← d.opcode) at h in
     let o = c.fields_of-w.result.opcode in
     let past = c.if-opcode-le-CONCAT.false in
@@ -34,8 +34,8 @@ returns-then-opcode-le-TESTSET c p ks st h =
     rw (← d.opcode, first) (c.test.ensures.result_after p i d (omega (arith, past, not)) upto)
 
 pub returns : goal.returns
-returns c p ks st h =
+returns c p words nested nups stack h =
     let i = c.args.i in
-    let d : FieldsOf (word p i) c.fields_of-w.result = rw (st.words, ← c.at_or.ensures) c.fields_of-w.ensures in
+    let d : FieldsOf (word p i) c.fields_of-w.result = rw (words, ← c.at_or.ensures) c.fields_of-w.ensures in
     let below = rw (← d.opcode) at h in
-    rw (← d.opcode) (c.from_call_on.ensures p ks st d c.if-opcode-le-TESTSET.false below)
+    rw (← d.opcode) (c.from_call_on.ensures p words nested nups stack d c.if-opcode-le-TESTSET.false below)

@@ -27,6 +27,7 @@ returns-in-3 c p i e =
       e,
       ← c.b_of.ensures,
       ← c.a_of.ensures,
+      ← c.from.ensures,
     )
     c.saturating_sub.ensures
 
@@ -58,7 +59,7 @@ pub returns-in-28 : goal.returns-in-28
 unfolding op_of
 returns-in-28 c p i e =
     let is : opcode p i ≡ 28 = rw e (sym c.opcode_of-opcode.ensures ∙ c.in-28.is) in
-    rw (is, call_count p i, e, ← c.c_of.ensures) (c.from.ensures ∙ one_unless c.c_of.result)
+    rw (is, call_count p i, e, ← c.c_of.ensures) (c.from-in-28.ensures ∙ one_unless c.c_of.result)
 
 pub returns-in-37 : goal.returns-in-37
 unfolding op_of

@@ -12,5 +12,5 @@ pub returns : goal.returns
 returns c =
     let l = next_listed _ _ _ _ c.requires c.put_function.ensures (search rules) in
     let few : length c.args.out.now ≤ largest_usize = search rules in
-    let bytes = listing_of (word_back c.args.table) c.args.s.now c.args.f in
+    let bytes = listing_of (word_back c.args.table) c.args.chunk.bytes.now c.args.f in
     record { value = whole_counted bytes c.args.out.now _ _ l few; out_after = whole_left bytes c.args.out.now _ _ l few }

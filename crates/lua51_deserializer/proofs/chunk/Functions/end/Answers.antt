@@ -6,6 +6,6 @@ use Rattle.lua51_deserializer.proofs.chunk.Functions.end.Goals as goal
 pub returns : goal.returns
 returns c =
     let t = c.args.self.now in
-    let l : length t.places ≡ 256 = search rules in
-    let h : c.args.me < length t.places = omega arith in
-    rw c.from.ensures (tailed t.places t.count c.args.me c.args.tail h)
+    let l : length t.tails ≡ 256 = search rules in
+    let h : c.args.me < length t.tails = omega arith in
+    rw c.from.ensures (tailed t.starts t.tails t.parents t.count c.args.me c.args.tail h)
