@@ -1,4 +1,4 @@
-// The listing of one function of a chunk.
+// The listing of one function of a chunk. Its bytes and what is loaded of them stay two parameters: constants are read where they stand.
 // The contracts speak of every function that is described so: a ghost field would fix one, which each caller would have to name.
 ghost use Rattle.std.specs.Prelude.{ℕ, ◌+◌, ◌*◌, ◌≤◌, ◌<◌, true, List, ◌≡◌, length};
 ghost use Rattle.lines.specs.Out.{output, Puts, PrintsOn};
