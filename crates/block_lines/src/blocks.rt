@@ -1,5 +1,6 @@
 // The lines of one block: of a code block, of the entry, of a between block.
 // The contracts speak of every function that is drawn so: a ghost field would fix one, which each caller would have to name.
+// The buffer for runs is a slice that is long enough: an array's type would ask for just that length.
 ghost use Rattle.std.specs.Prelude.{None, cond, ltb, ℕ, ◌≤◌, ◌<◌, true, ◌≡◌, length, get_or};
 ghost use mathlib.Core.List.{flat_map};
 ghost use Rattle.lines.specs.Line.{line, letter_b};

@@ -1,6 +1,6 @@
 // The lines of all blocks of a function: code blocks, the entry, between blocks.
 // The contracts speak of every function that is described so: a ghost field would fix one, which each caller would have to name.
-// Output, buffer and what is drawn stay three parameters, for the reason at `Drawn`.
+// Output, buffer and what is drawn stay three parameters, for the reason at `Drawn`; the buffer is a slice that is long enough.
 ghost use Rattle.std.specs.Prelude.{◌+◌, ◌≤◌, length};
 ghost use Rattle.lines.specs.Out.{Puts, PrintsOn};
 ghost use Rattle.lua51_instruction.specs.Proto.{Proto, size};
