@@ -1,16 +1,10 @@
 -- P10's lengths, for every list. Assumes nothing.
-use Rattle.lua51_instruction.specs.Proto.{reworded}
-use Rattle.lua51_deserializer.specs.Chunk.{Read, Place, proto_at, walk}
-use Rattle.lua51_deserializer.proofs.Numbers.{Later, goes_on, later, short_later, long_refused}
-use Rattle.lua51_lifter.specs.Check.{Verdict}
-use Rattle.lua51_lifter.proofs.Verdicts.{From, not_one, from_on, check_from}
-use Prim.Native.Nat.{ℕ, zero, suc, ◌+◌, ◌≤◌}
+use Rattle.lua51_deserializer.proofs.Numbers.{long_refused}
+use Prim.Native.Nat.{ℕ}
 use native.Mathlib.Omega.{arith}
 use mathlib.Core.Path.{◌≡◌}
-use mathlib.Core.List.{List}
-use lib.ListN.{length}
 use Rattle.judging.proofs.Since.{Since, gives, refuses, short_since}
-use Rattle.judging.specs.Judge.{judge, Answer, judged, judge_read, judge_from, refusal, given}
+use Rattle.judging.specs.Judge.{judge, Answer, judge_read, refusal}
 use Rattle.cases.specs.Lengths.{Lengths}
 
 -- a refusal from 2 on is not 1

@@ -1,15 +1,14 @@
 -- Laws of the pieces of the listing program's output: which piece stands at k, what is left behind it, and what a printed piece leaves
 -- in the output. Assumes nothing.
-use Prim.Native.Nat.{ℕ, zero, suc, ◌+◌, ◌-◌, ◌/◌, ◌%◌, ◌≤◌, ◌<◌, min}
+use Prim.Native.Nat.{ℕ, suc, ◌+◌, ◌-◌, ◌≤◌, ◌<◌, min}
 use mathlib.Core.Bool.{Bool, true, false, cond}
-use mathlib.Core.List.{List, [], ◌∷◌, ◌++◌, flat_map, append_assoc}
+use mathlib.Core.List.{List, [], ◌∷◌, ◌++◌, append_assoc}
 use mathlib.Core.Path.{◌≡◌, refl, sym, ap, ◌∙◌}
 use native.Mathlib.Omega.{arith}
 use borrow.Author.Tests.{lt-ltb, le-ltb, ltb-true, ltb-false}
 use lib.Dec.{ltb}
-use lib.ListN.{length, length-append, length-replicate, take, drop, get_or, get_or-eq_default}
+use lib.ListN.{length, length-append, take, drop, get_or, get_or-eq_default}
 use lib.Seq.{get_or_at, take_at, length-take-le}
-use Rattle.lines.specs.Line.{digit, digits, decimal, column, line}
 use Rattle.lines.specs.Out.{Out, output, largest_usize, puts}
 use Rattle.lines.proofs.Puts.{puts_length, puts_fit, puts_at}
 use Rattle.basics.specs.Range.{over, only}

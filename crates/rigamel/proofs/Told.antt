@@ -1,23 +1,19 @@
 -- The numbers of a call say all that the definition has. Assumes nothing.
-use Prim.Native.Nat.{ℕ, zero, suc, ◌+◌, ◌/◌, ◌%◌, ◌<◌, ◌≤◌}
+use Prim.Native.Nat.{ℕ, zero, suc, ◌+◌, ◌<◌, ◌≤◌}
 use native.Mathlib.Omega.{arith}
 use mathlib.Core.Bool.{Bool, true, false, cond}
 use mathlib.Core.Path.{◌≡◌, refl, sym, ◌∙◌, ap}
-use mathlib.Core.List.{List, [], ◌∷◌, ◌++◌, flat_map}
+use mathlib.Core.List.{List, [], ◌∷◌, ◌++◌}
 use lib.Dec.{leb, ltb, eqb}
-use lib.ListN.{length, take, drop, set, length-append, length-replicate}
+use lib.ListN.{length, take, drop, set}
 use lib.Seq.{take-length}
-use borrow.Author.Tests.{lt-ltb, ne_eqb, ltb-true, ltb-false}
-use Rattle.lines.specs.Line.{digits, digit, decimal, column, line}
+use borrow.Author.Tests.{lt-ltb, ne_eqb}
 use Rattle.lines.specs.Out.{Out, output, largest_usize, put, puts}
 use Rattle.lines.proofs.Puts.{puts_count, puts_empty}
-use Rattle.lua51_instruction.specs.Proto.{reworded}
 use Rattle.house_table.specs.House.{word_back}
-use Rattle.lua51_deserializer.specs.Chunk.{Read, Place, walk, proto_at}
-use Rattle.lua51_deserializer.proofs.Numbers.{Later, goes_on, later, short_later, long_refused}
 use Rattle.lua51_lifter.specs.Check.{Verdict}
-use Rattle.lua51_lifter.proofs.Verdicts.{From, not_one, from_on, check_from}
-use Rattle.judging.specs.Judge.{Answer, given, refusal, judge, judge_read, judge_from, judged, listing_of}
+use Rattle.lua51_lifter.proofs.Verdicts.{From, not_one, from_on}
+use Rattle.judging.specs.Judge.{Answer, given, refusal, judge, listing_of}
 use Rattle.house_loading.specs.Loading.{table_of}
 use Rattle.house_loading.proofs.Found.{load_from}
 use Rattle.judging.specs.Refusal.{refusal_line}
@@ -27,7 +23,7 @@ use Rattle.reading.specs.Reading as reading
 use Rattle.reading.specs.Reading.{opening, opened_by, delivery, delivered_by, written, unchanged}
 use Rattle.reading.specs.Loading.{loading, loaded_by}
 use Rattle.rigamel.specs.Numbers.{outcome_of, answer_of, reading_of, numbers_of, answer_numbers, reading_numbers}
-use Rattle.rigamel.specs.Told.{Told, most_line}
+use Rattle.rigamel.specs.Told.{Told}
 use Rattle.rigamel.specs.declared.Reading.{Reading}
 
 -- ------------------------------------------------------------ numbers read back
