@@ -108,6 +108,7 @@ impl<'a> Run<'a> {
     }
 
     // Writes one number: stored if the buffer has a place for it. By index: std says nothing of a slice behind `get_mut`.
+    #[inline(always)]
     pub fn push(&mut self, x: u32)
         ensures { Adds self.old self.new (x ∷ []) }
     {
@@ -117,22 +118,34 @@ impl<'a> Run<'a> {
         }
     }
 
-    // Writes numbers one after the other.
+    // Writes numbers one after the other. Loops here and in `lua51_runs` have a run of their own: where one is lent, each number written
+    // would load and store its count.
+    #[inline(always)]
     pub fn push_all(&mut self, numbers: &[u32])
         ensures { Adds self.old self.new numbers.now }
     {
+        let mut run = Run {
+            numbers: &mut *self.numbers,
+            used: self.used,
+        };
         for x in numbers {
-            self.push(*x);
+            run.push(*x);
         }
+        self.used = run.used;
     }
 
     // Writes the registers of an operand that is several of them, 'a first register and a count': each as an expression.
     pub fn push_registers(&mut self, first: u16, count: u16)
         ensures { Adds self.old self.new (exprs (registers first count []ᵉ)) }
     {
+        let mut run = Run {
+            numbers: &mut *self.numbers,
+            used: self.used,
+        };
         let first = u32::from(first);
         for register in first..first + u32::from(count) {
-            self.push_all(&[REGISTER, register]);
+            run.push_all(&[REGISTER, register]);
         }
+        self.used = run.used;
     }
 }

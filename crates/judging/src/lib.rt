@@ -64,7 +64,7 @@ fn check_function<const WORDS: usize, const CONSTANTS: usize, const MARKS: usize
         kinds: &room.kinds[..loaded.kinds],
         nested: &room.nested[..loaded.nested],
         nups: &room.nups[..loaded.nested],
-        lines: loaded.lines,
+        lines: &chunk.bytes[loaded.lines..loaded.locals],
     };
     let marks = loaded.words + 1;
     check(

@@ -18,7 +18,7 @@ use Rattle.lua51_deserializer.specs.Chunk.{here, walked, Walk, walk, proto_at, m
 use Rattle.lua51_deserializer.specs.Walked.{places_of}
 use Rattle.lua51_deserializer.specs.declared.chunk.Functions.{Functions}
 use Rattle.std.proofs.Common.{Ok}
-use Rattle.lua51_function.specs.Function.{Stands, Shows, held_of, Loads, few_words, Roomy, Holds}
+use Rattle.lua51_function.specs.Function.{Stands, Shows, held_of, Loads, few_words, part, Roomy, Holds}
 use Rattle.lua51_function.specs.declared.function.Head.{Head}
 use Rattle.lua51_function.specs.declared.function.Loaded.{Loaded}
 use Rattle.lua51_function.specs.declared.function.View.{View}
@@ -72,7 +72,7 @@ module _ (s : List ℕ) (functions : Functions) (f end : ℕ) (e : walked (here 
 pub held : {back : ℕ → ℕ} {s : List ℕ} {f : ℕ} {r : Loaded} {ws ks fs us : List ℕ} → Holds back s (walk s).places f r ws ks fs us
     → check (reworded back (proto_at s (walk s).places f)) ≡ fine
     → (v : View) → Shows (reworded back (proto_at s (walk s).places f)) (proto_at s (walk s).places f).kinds v
-    → Held (reworded back (proto_at s (walk s).places f)) v r.lines.now
+    → Held (reworded back (proto_at s (walk s).places f)) v (part s r.lines r.locals)
 held {back} {s} {f} h ok v sees =
     let p = proto_at s (walk s).places f in
     record { fine = ok; few = omega (arith, reworded_size back p, h.limits.words); kinds = p.kinds; stands = sees; lines = h.lines }

@@ -7,7 +7,7 @@ ghost use Rattle.house_table.specs.House.{word_back, word_by};
 ghost use Rattle.lua51_value.specs.Value.{Value};
 ghost use Rattle.lua51_deserializer.specs.Chunk.{here, walked, walk, proto_at, constants_at, most_words};
 ghost use Rattle.lua51_deserializer.specs.Walked.{places_of};
-ghost use Rattle.lua51_function.specs.Function.{held_of, places_from};
+ghost use Rattle.lua51_function.specs.Function.{held_of, places_from, part};
 ghost use Rattle.lua51_constants.specs.Constants.{AreRead};
 ghost use Rattle.lua51_lifter.specs.Check.{check, fine};
 ghost use Rattle.lua51_lifter.specs.Listing.{listing};
@@ -29,7 +29,7 @@ use lua51_function::function::{
 // Prints the listing of a function that is loaded, by what is drawn of it.
 fn put_loaded(out: &mut Output, s: &[u8], loaded: Loaded, run: &mut [u32], drawn: &Drawn)
     ensures result_after { (p : Proto) (vs : List Value) → Draws p drawn.now → run_numbers ≤ length run.old
-        → AreRead s.now (places_from s.now loaded.entry.first loaded.entry.constants) vs
+        → AreRead s.now (places_from s.now loaded.first loaded.constants) vs
         → Puts out.old out.new (listing p vs) }
     ensures anyway { PrintsOn out.old out.new }
 {
@@ -42,7 +42,7 @@ fn put_loaded(out: &mut Output, s: &[u8], loaded: Loaded, run: &mut [u32], drawn
 // printing it into an empty output.
 fn put_whole(out: &mut [u8], s: &[u8], loaded: Loaded, run: &mut [u32], drawn: &Drawn) -> usize
     ensures result_after { (p : Proto) (vs : List Value) → Draws p drawn.now → run_numbers ≤ length run.old
-        → AreRead s.now (places_from s.now loaded.entry.first loaded.entry.constants) vs
+        → AreRead s.now (places_from s.now loaded.first loaded.constants) vs
         → output out.new result ≡ printed true out.old (listing p vs) }
     ensures anyway { Leaves true out.old out.new result }
 {
@@ -69,15 +69,18 @@ fn put_listing(
     run: &mut [u32],
     notes: &mut [Note],
 ) -> usize
-    ensures result_after { (p : Proto) (vs : List Value) → Held p function.now loaded.entry.lines.now → run_numbers ≤ length run.old → length notes.old ≡ size p + 1
-        → AreRead s.now (places_from s.now loaded.entry.first loaded.entry.constants) vs
+    requires from { loaded.lines ≤ loaded.locals }
+    requires inside { loaded.locals ≤ length s.now }
+    ensures result_after { (p : Proto) (vs : List Value) → Held p function.now (part s.now loaded.lines loaded.locals)
+        → run_numbers ≤ length run.old → length notes.old ≡ size p + 1
+        → AreRead s.now (places_from s.now loaded.first loaded.constants) vs
         → output out.new result ≡ printed whole out.old (listing p vs) }
     ensures anyway { Leaves whole out.old out.new result }
 {
     note_graph(function.words, notes);
     let drawn = Drawn {
         function: *function,
-        lines: loaded.lines,
+        lines: &s[loaded.lines..loaded.locals],
         notes,
     };
     if whole {

@@ -46,11 +46,12 @@ pub struct Functions {
     pub count: usize,
 }
 
-// A chunk that was walked, with the table of its functions.
+// A chunk that was walked, with the table of its functions. Each is lent for its own time: the table may be walked into again while the
+// bytes stay lent.
 #[derive(Clone, Copy)]
-pub struct Chunk<'a> {
+pub struct Chunk<'a, 'b> {
     pub bytes: &'a [u8],
-    pub functions: &'a Functions,
+    pub functions: &'b Functions,
 }
 
 impl Functions {

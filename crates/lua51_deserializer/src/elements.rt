@@ -17,6 +17,7 @@ pub trait Element {
 }
 
 // A constant.
+#[derive(Clone, Copy)]
 pub struct Constant;
 
 impl Element for Constant {
@@ -28,6 +29,7 @@ impl Element for Constant {
 }
 
 // A local variable.
+#[derive(Clone, Copy)]
 pub struct Local;
 
 impl Element for Local {
@@ -39,6 +41,7 @@ impl Element for Local {
 }
 
 // The name of an upvalue.
+#[derive(Clone, Copy)]
 pub struct Name;
 
 impl Element for Name {

@@ -19,7 +19,6 @@ use Rattle.lua51_function.specs.declared.function.Head.{Head}
 use Rattle.lua51_function.specs.declared.function.Loaded.{Loaded}
 use Rattle.lua51_deserializer.proofs.Places.{places_length}
 use Rattle.lua51_function.proofs.Buffers.{filled_length, values_are, map_at}
-use Rattle.lua51_function.proofs.WordLines.{has_lines}
 use Rattle.lua51_function.proofs.WholeChunk.{whole_chunk}
 
 -- words that are taken for others are as many
@@ -83,7 +82,7 @@ module _ (back : ℕ → ℕ) (s : List ℕ) (ps : List Place) (f : ℕ) (r : Lo
         words = sym (reworded_size back p) ∙ whole_count l.words words;
         nested = whole_count l.nested nested;
         limits = limits;
-        lines = rw l.lines (has_lines s ps f);
+        lines = l.lines;
         places = l.places;
         constant = read.constant;
         value = λ i h. rw (constants_are s ps f) (sym (map_at (value_at s) (constant_places s ps f) i nil h));

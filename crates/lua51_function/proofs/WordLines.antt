@@ -13,7 +13,7 @@ use Rattle.lua51_deserializer.specs.Chunk.{Place, nowhere, ints, proto_at}
 use Rattle.lua51_value.specs.Bytes.{byte_at, int_at}
 use Rattle.lua51_value.specs.Constant.{within}
 use Rattle.lua51_value.proofs.Ends.{int_past, drop_within}
-use Rattle.lua51_function.specs.Function.{line_in, HasLines, lines_of}
+use Rattle.lua51_function.specs.Function.{line_in, HasLines, lines_of, part}
 use Rattle.lua51_function.proofs.Buffers.{ints_length, ints_at}
 
 -- bytes that are too few for the line of word i
@@ -52,35 +52,52 @@ module _ (s : List ℕ) (a n : ℕ) where
       get_or-eq_default (ints s a n) 0 (omega (arith, ints_length s a n))
       ∙ sym (line_none held i (omega (arith, length-take (4 * n) (drop a s)))))
 
--- the bytes from one place up to another, which are cut off at the end of the bytes
+-- the part from one place up to another, which are cut off at the end of the bytes
 module _ (s : List ℕ) (a n : ℕ) {from past : ℕ} (f : from ≡ within s a) (p : past ≡ within s (from + n)) where
-  pub part_held : take (past - from) (drop from s) ≡ take n (drop a s)
+  pub part_held : part s from past ≡ take n (drop a s)
   part_held = either_way (ltb (from + n) (length s)) inner outer
     where
       same : drop from s ≡ drop a s
       same = rw f (drop_within s a)
 
-      inner : ltb (from + n) (length s) ≡ true → take (past - from) (drop from s) ≡ take n (drop a s)
+      inner : ltb (from + n) (length s) ≡ true → part s from past ≡ take n (drop a s)
       inner t = let e : past - from ≡ n = omega (arith, rw t at p) in rw (e, same)
 
-      outer : ltb (from + n) (length s) ≡ false → take (past - from) (drop from s) ≡ take n (drop a s)
+      outer : ltb (from + n) (length s) ≡ false → part s from past ≡ take n (drop a s)
       outer t =
           let e : past - from ≡ length s - from = omega (arith, rw t at p) in
           rw (e, ← same)
           (take_all (length s - from) (drop from s) (omega (arith, length-drop from s))
           ∙ sym (take_all n (drop from s) (omega (arith, length-drop from s, ltb-false (from + n) (length s) t))))
 
+within_most : (s : List ℕ) (i : ℕ) → within s i ≤ length s
+within_most s i = either_way (ltb i (length s)) (λ t. rw t (omega (arith, ltb-true i (length s) t))) (λ t. rw t (omega arith))
+
+within_least : (s : List ℕ) (i k : ℕ) → i ≤ length s → i ≤ within s (i + k)
+within_least s i k h = either_way (ltb (i + k) (length s)) (λ t. rw t (omega arith)) (λ t. rw t h)
+
 -- the bytes of a function's word lines have its lines
 pub has_lines : (s : List ℕ) (ps : List Place) (f : ℕ) → HasLines (proto_at s ps f) (lines_of s (get_or ps f nowhere).tail)
 unfolding proto_at
 has_lines s ps f i = let at = (get_or ps f nowhere).tail in lines_held s (at + 4) (int_at s at) i
 
--- and so has the part from behind their count up to the end of the lines, each place cut off at the end of the bytes
+-- the part from behind their count up to the end of the lines, each place cut off at the end of the bytes
 module _ (s : List ℕ) (ps : List Place) (f : ℕ) {tail count from past : ℕ} (t : tail ≡ (get_or ps f nowhere).tail)
     (c : count ≡ length (proto_at s ps f).lines) (a : from ≡ within s (tail + 4)) (b : past ≡ within s (from + 4 * count)) where
-  pub lines_part : HasLines (proto_at s ps f) (take (past - from) (drop from s))
+  pub lines_inside : past ≤ length s
+  lines_inside = rw b (within_most s (from + 4 * count))
+
+  pub lines_from : from ≤ past
+  lines_from = rw b (within_least s from (4 * count) (rw a (within_most s (tail + 4))))
+
+  -- it is the bytes of the word lines
+  pub lines_bytes : part s from past ≡ lines_of s (get_or ps f nowhere).tail
   unfolding proto_at
-  lines_part i =
+  lines_bytes =
       let at = (get_or ps f nowhere).tail in
       let n : count ≡ int_at s at = c ∙ ints_length s (at + 4) (int_at s at) in
-      rw (part_held s (tail + 4) (4 * count) a b, t, n) (lines_held s (at + 4) (int_at s at) i)
+      rw (part_held s (tail + 4) (4 * count) a b, t, n)
+
+  -- and so it has the lines
+  pub lines_part : HasLines (proto_at s ps f) (part s from past)
+  lines_part = rw lines_bytes (has_lines s ps f)

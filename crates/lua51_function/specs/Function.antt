@@ -1,5 +1,5 @@
 -- The function that the code holds as a head and lists of numbers, and what the buffers hold once it is read.
-use Rattle.std.specs.Prelude.{List, [], ◌∷◌, ◌++◌, map, ◌≡◌, ℕ, zero, suc, ◌+◌, ◌*◌, ◌≤◌, ◌<◌, min, get_or, length, take, drop, Result, Ok}
+use Rattle.std.specs.Prelude.{List, [], ◌∷◌, ◌++◌, map, ◌≡◌, ℕ, zero, suc, ◌+◌, ◌-◌, ◌*◌, ◌≤◌, ◌<◌, min, get_or, length, take, drop, Result, Ok}
 use Rattle.lua51_instruction.specs.Proto.{Proto, reworded, line_at}
 use Rattle.lua51_deserializer.specs.Chunk.{here, ◌then◌, offset, constant, head, code, constants, lines, locals, names, Place, nowhere, walked, walk, bytes_of, words_of, constants_of, proto_at, most, most_bytes, most_flags, most_functions, most_words, constants_at}
 use Rattle.lua51_value.specs.Bytes.{byte_at, int_at}
@@ -82,6 +82,10 @@ HasLines p ls = (i : ℕ) → line_at p i ≡ line_in ls i
 abbrev pub lines_of : List ℕ → ℕ → List ℕ
 lines_of s tail = take (4 * int_at s tail) (drop (tail + 4) s)
 
+-- the bytes of s from one place to before another
+abbrev pub part : List ℕ → ℕ → ℕ → List ℕ
+part s from past = take (past - from) (drop from s)
+
 -- ------------------------------------------------------------ buffers
 
 -- a buffer held `before` and then `after`: xs, as far as there is room, n of them; and behind them what stood there. So n is a
@@ -105,12 +109,14 @@ head_of p = record {
 }
 
 -- Function f of the chunk s, among those at ps, is loaded: its head, the places of its constants by the first and their count,
--- the bytes of its word lines, and in the buffers its words, the kinds of its constants, the numbers of the functions
+-- the part of s that its word lines are, and in the buffers its words, the kinds of its constants, the numbers of the functions
 -- nested in it and their counts of upvalues. Each word w is taken for back w. Each buffer as it was and as it is.
 pub record Loads (back : ℕ → ℕ) (s : List ℕ) (ps : List Place) (f : ℕ) (r : Loaded) (ws ws' ks ks' ns ns' us us' : List ℕ) : Type 0 where
   pub head : r.head ≡ head_of (proto_at s ps f)
   pub places : places_from s r.first r.constants ≡ constant_places s ps f
-  pub lines : r.lines.now ≡ lines_of s (get_or ps f nowhere).tail
+  pub from : r.lines ≤ r.locals
+  pub inside : r.locals ≤ length s
+  pub lines : HasLines (proto_at s ps f) (part s r.lines r.locals)
   pub words : Filled r.words (length ws) (map back (proto_at s ps f).words) ws ws'
   pub kinds : Filled r.kinds (length ks) (proto_at s ps f).kinds ks ks'
   pub nested : Filled r.nested (min (length ns) (length us)) (proto_at s ps f).nested ns ns'
@@ -166,14 +172,14 @@ pub record Roomy (p : Proto) (ws ns us : List ℕ) : Type 0 where
   pub nups : most_functions ≤ length us
 
 -- the buffers hold all of function f, each word w taken for back w, as many of each list as r says, and its kinds where there was room
--- for them; the bytes of its word lines; from the place of its first constant on, each was read, and its value is the function's
+-- for them; its word lines are that part of s; from the place of its first constant on, each was read, and its value is the function's
 pub record Holds (back : ℕ → ℕ) (s : List ℕ) (ps : List Place) (f : ℕ) (r : Loaded) (ws ks ns us : List ℕ) : Type 0 where
   pub stands : Stands (reworded back (proto_at s ps f)) r.head (take r.words ws) (proto_at s ps f).kinds (take r.nested ns) (take r.nested us)
   pub kinds : length (proto_at s ps f).kinds ≤ length ks → (proto_at s ps f).kinds ≡ take r.kinds ks
   pub words : length (proto_at s ps f).words ≡ r.words
   pub nested : length (proto_at s ps f).nested ≡ r.nested
   pub limits : InLimits (proto_at s ps f)
-  pub lines : HasLines (reworded back (proto_at s ps f)) r.lines.now
+  pub lines : HasLines (reworded back (proto_at s ps f)) (part s r.lines r.locals)
   pub places : places_from s r.first r.constants ≡ constant_places s ps f
   pub constant : (i : ℕ) → i < length (constant_places s ps f) → (j : ℕ) × (constant s (get_or (constant_places s ps f) i 0) ≡ here j)
   pub value : (i : ℕ) → i < length (constant_places s ps f) → value_at s (get_or (constant_places s ps f) i 0) ≡ get_or (constants_at s ps f) i nil

@@ -6,7 +6,7 @@ ghost use Rattle.lua51_deserializer.specs.Chunk.{ints, nowhere, offset, ◌then�
 ghost use Rattle.lua51_value.specs.Bytes.{int_at};
 ghost use Rattle.lua51_deserializer.specs.Walked.{place_of};
 ghost use Rattle.lua51_value.specs.Constant.{within};
-ghost use Rattle.lua51_function.specs.Function.{held_count, held_of, number_in, upvalues_in, places_from, kind_at, Filled, head_of, line_in, lines_of, Loads};
+ghost use Rattle.lua51_function.specs.Function.{held_count, held_of, number_in, upvalues_in, places_from, kind_at, Filled, head_of, line_in, lines_of, part, Loads};
 
 use basics::slices::at_or;
 use house_table::word_back;
@@ -39,14 +39,16 @@ pub struct View<'a> {
     pub nups: &'a [u8],
 }
 
-// A function's head; where its first constant stands, and how many constants it has; the bytes of its word lines; and how many of its
-// words, of its constants' kinds and of its nested functions the buffers hold.
+// A function's head; where its first constant stands, and how many constants it has; where its word lines stand, up to its locals;
+// and how many of its words, of its constants' kinds and of its nested functions the buffers hold. Plain numbers: neither the chunk's
+// bytes nor the table stay lent while they are kept.
 #[derive(Clone, Copy)]
-pub struct Loaded<'a> {
+pub struct Loaded {
     pub head: Head,
     pub first: usize,
     pub constants: usize,
-    pub lines: &'a [u8],
+    pub lines: usize,
+    pub locals: usize,
     // Counts, not the filled parts as slices: tried, and where those are given back a contract cannot say what the buffers hold then
     // ("this `&mut` may have gone into the result, .., so it has no value after the call").
     pub words: usize,
@@ -228,15 +230,6 @@ fn fill_nested(chunk: Chunk, me: u32, numbers: &mut [u32], nups: &mut [u8]) -> u
     n
 }
 
-// The bytes of the word lines of the function whose rest stands at `tail`.
-fn lines_of(s: &[u8], tail: usize) -> &[u8]
-    ensures { result.now ≡ lines_of s.now tail }
-{
-    let from = place_after(s, tail, INT_SIZE);
-    let size = INT_SIZE * (int_at(s, tail) as usize);
-    &s[from..place_after(s, from, size)]
-}
-
 // The line of word i, by the bytes of a function's word lines; past the last, 0, as a B line prints it.
 #[tactic(auto, using(crate::proofs::WordLines::line_none))]
 pub fn line_at(lines: &[u8], i: usize) -> usize
@@ -248,35 +241,41 @@ pub fn line_at(lines: &[u8], i: usize) -> usize
     int_at(lines, INT_SIZE * i) as usize
 }
 
-// Function f of a chunk that was walked: its head, where its constants start and how many they are, the bytes of its word lines; and
+// Function f of a chunk that was walked: its head, where its constants start and how many they are, where its word lines stand; and
 // in the buffers its words, the kinds of its constants, the numbers of the functions nested in it and their counts of upvalues, each
 // list as far as there is room. Words are put back as they are loaded, by the inverse of a table, whatever that holds. Who needs no kinds
 // lends an empty buffer for them.
 //
 // The buffers are four parameters: of a struct of them a contract could tell what they hold afterwards by position alone.
-pub fn function_at<'a>(
-    chunk: Chunk<'a>,
+pub fn function_at(
+    chunk: Chunk,
     f: u32,
     inverse: &[u8],
     words: &mut [u32],
     kinds: &mut [u8],
     nested: &mut [u32],
     nups: &mut [u8],
-) -> Loaded<'a>
-    ensures { Loads (word_by inverse.now) chunk.entry.bytes.now (held_of chunk.entry.functions.now) f result
+) -> Loaded
+    ensures loads { Loads (word_by inverse.now) chunk.entry.bytes.now (held_of chunk.entry.functions.now) f result
         words.old words.new kinds.old kinds.new nested.old nested.new nups.old nups.new }
+    ensures bytes { part chunk.entry.bytes.now result.lines result.locals
+        ≡ lines_of chunk.entry.bytes.now (get_or (held_of chunk.entry.functions.now) f nowhere).tail }
 {
     let s = chunk.bytes;
     let place = place_in(chunk.functions, f);
     let start = place.start as usize;
+    let head = head_at(chunk, f);
     let count_at = constants_of(s, start);
     let first = place_after(s, count_at, INT_SIZE);
     let constants = int_at(s, count_at) as usize;
+    let lines = place_after(s, place.tail as usize, INT_SIZE);
+    let locals = place_after(s, lines, INT_SIZE * (head.lines as usize));
     Loaded {
-        head: head_at(chunk, f),
+        head,
         first,
         constants,
-        lines: lines_of(s, place.tail as usize),
+        lines,
+        locals,
         words: fill_words(s, start, inverse, words),
         kinds: fill_kinds(s, first, constants, kinds),
         nested: fill_nested(chunk, f, nested, nups),

@@ -28,14 +28,20 @@ fn capture_kind(word: u32) -> u32
 }
 
 // Writes what the `count` words behind word i capture. By index: past the last word every place holds 0, and an iterator would end.
+// The loop writes into a run of its own, for the reason that stands at `Run::push_all`.
 fn push_captures(run: &mut Run, words: &[u32], i: usize, count: u8)
     ensures { (p : Proto) → p.words ≡ words.now → Adds run.old run.new (exprs (captures p i count)) }
 {
     let behind = &words[words.len().min(i.saturating_add(1))..];
+    let mut own = Run {
+        numbers: &mut *run.numbers,
+        used: run.used,
+    };
     for k in 0..usize::from(count) {
         let word = at_or(behind, k, 0);
-        run.push_all(&[capture_kind(word), u32::from(b_of(word))]);
+        own.push_all(&[capture_kind(word), u32::from(b_of(word))]);
     }
+    run.used = own.used;
 }
 
 // Writes the statement of CLOSURE at word i of a function.

@@ -1,4 +1,5 @@
 // Assignments to registers, and registers one after the other: as the left side of an assignment, in a set list, closed, joined.
+// A loop writes into a run of its own, for the reason that stands at `Run::push_all`.
 ghost use Rattle.std.specs.Prelude.{◌-◌};
 ghost use Rattle.basics.specs.Range.{over, only};
 ghost use Rattle.ast.specs.Statement.{expr};
@@ -43,9 +44,14 @@ pub fn close(run: &mut Run, first: u8, stack: u8)
 {
     let count = stack.saturating_sub(first);
     run.push_all(&[CLOSE, u32::from(count)]);
+    let mut own = Run {
+        numbers: &mut *run.numbers,
+        used: run.used,
+    };
     for register in first..stack {
-        run.push(u32::from(register));
+        own.push(u32::from(register));
     }
+    run.used = own.used;
 }
 
 // Writes R(first) to R(first + more), joined from the right.
@@ -54,8 +60,13 @@ pub fn push_concatenated(run: &mut Run, first: u16, more: u16)
 {
     let first = u32::from(first);
     let last = first + u32::from(more);
+    let mut own = Run {
+        numbers: &mut *run.numbers,
+        used: run.used,
+    };
     for register in first..last {
-        run.push_all(&[BINARY, CONCAT, REGISTER, register]);
+        own.push_all(&[BINARY, CONCAT, REGISTER, register]);
     }
-    run.push_all(&[REGISTER, last]);
+    own.push_all(&[REGISTER, last]);
+    run.used = own.used;
 }

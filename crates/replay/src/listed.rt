@@ -73,6 +73,7 @@ pub trait Recorded {
 }
 
 // The whole listing.
+#[derive(Clone, Copy)]
 pub struct Whole;
 
 impl Recorded for Whole {
@@ -82,6 +83,7 @@ impl Recorded for Whole {
 }
 
 // What the original tells.
+#[derive(Clone, Copy)]
 pub struct Told;
 
 impl Recorded for Told {

@@ -14,14 +14,15 @@ use Rattle.judging.proofs.check_function.Goals as goal
 pub whole_as_front-check : goal.whole_as_front-check
 whole_as_front-check g c =
     let q = c.requires in
-    let h = holds_function q.whole q.f_lt_count q.fits (search rules) (search rules) (search rules) (search rules) c.function_at-loaded.ensures in
+    let loads = c.function_at-loaded.ensures.loads in
+    let h = holds_function q.whole q.f_lt_count q.fits (search rules) (search rules) (search rules) (search rules) loads in
     (omega (arith, h.words, q.fits.marks), omega arith)
 
 pub returns : goal.returns
 returns g c =
     let a = c.args in
     let q = c.requires in
-    let loads = c.function_at-loaded.ensures in
+    let loads = c.function_at-loaded.ensures.loads in
     let marks = c.function_at-loaded.result.words + 1 in
     let r = a.room.now in
     let lw : length r.words ≡ g.row.WORDS = search rules in

@@ -4,4 +4,4 @@ use Rattle.ast.proofs.Written.{Left}
 use Rattle.ast.proofs.Run.push_all.Given as goal
 
 abbrev pub invariant-loop-x : goal.invariant-loop-x
-invariant-loop-x l = Left l.initial.self l.self l.numbers (drop l.x-index l.numbers)
+invariant-loop-x l = Left l.initial.run l.run l.numbers (drop l.x-index l.numbers)

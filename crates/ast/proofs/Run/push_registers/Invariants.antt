@@ -6,4 +6,4 @@ use Rattle.ast.proofs.Run.push_registers.Given as goal
 
 abbrev pub invariant-loop-register : goal.invariant-loop-register
 invariant-loop-register l =
-    Left l.initial.self l.self (exprs (registers l.fn.first l.count []ᵉ)) (exprs (registers l.register (l.fn.first + l.count - l.register) []ᵉ))
+    Left l.initial.run l.run (exprs (registers l.fn.first l.count []ᵉ)) (exprs (registers l.register (l.fn.first + l.count - l.register) []ᵉ))

@@ -6,4 +6,4 @@ use Rattle.lines.specs.Out.{Puts}
 use Rattle.lines.proofs.Output.put_numbers.Given as goal
 
 abbrev pub invariant-loop-n : goal.invariant-loop-n
-invariant-loop-n g l = Puts l.initial.self l.self (flat_map (λ n. column (g.T.Columned.value n)) (take l.n-index l.numbers))
+invariant-loop-n g l = Puts l.initial.out l.out (flat_map (λ n. column (g.T.Columned.value n)) (take l.n-index l.numbers))

@@ -1,21 +1,10 @@
--- `store_cells` meets its contract: the bytes stand in the place of as many. Assumes nothing.
-use Prim.Native.Nat.{◌+◌, ◌-◌}
-use mathlib.Core.Path.{refl, ◌∙◌, sym, ap}
-use native.Mathlib.Omega.{arith}
-use Rattle.lines.specs.Line.{width}
-use Rattle.lines.specs.Out.{out_of, puts}
-use Rattle.lines.proofs.Puts.{puts_stored}
+-- `store_cells` meets its contract. Assumes nothing.
+use mathlib.Core.Path.{refl}
+use Rattle.lines.proofs.Stores.{puts_stores}
 use Rattle.std.proofs.Common.{rules}
 use Rattle.lines.proofs.Output.store_cells.Goals as goal
 
 pub returns : goal.returns
 returns c =
     let o = c.args.self.now in
-    let copied = c.copy_from_slice.new.self in
-    let end = o.at + width in
-    record {
-      same = refl;
-      printed =
-          sym (puts_stored o.bytes.now o.at copied (end - o.at) end (search rules) (omega arith) (omega arith) (search rules))
-          ∙ ap (puts (out_of o)) c.copy_from_slice.ensures.after;
-    }
+    record { same = refl; printed = puts_stores o.bytes.now o.at c.args.bytes (search rules) c.requires (search rules) }

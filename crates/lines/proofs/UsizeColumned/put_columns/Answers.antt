@@ -8,7 +8,7 @@ use Rattle.lines.proofs.UsizeColumned.put_columns.Goals as goal
 
 pub returns-then-n-gt-MOST_IN_COLUMNS : goal.returns-then-n-gt-MOST_IN_COLUMNS
 returns-then-n-gt-MOST_IN_COLUMNS c =
-    rw (column_large c.args.n c.if-n-gt-MOST_IN_COLUMNS.true (search rules)) c.put_digits.ensures
+    rw (column_large c.args.n c.if-n-gt-MOST_IN_COLUMNS.true (search rules)) (search (rules, c.put_large-out.ensures))
 
 pub returns-then-has_ended : goal.returns-then-has_ended
 returns-then-has_ended c =

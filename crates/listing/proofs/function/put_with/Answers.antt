@@ -21,11 +21,11 @@ returns g c =
       listed = λ end walked below ok runs.
           let few : length (proto_at chunk.bytes.now (held_of chunk.functions.now) c.args.f).words ≤ length (replicate g.row.WORDS 0) =
           rw length-replicate (c.requires.words end walked below) in
-          let h = holds_function chunk.functions.now end walked below loaded.ensures
+          let h = holds_function chunk.functions.now end walked below loaded.ensures.loads
           (room _ _ _ _ walked below _ _ _ few (search rules) (search rules)) in
           -- the notes of the words that were loaded have room
           let noted : loaded.result.words + 1 ≤ length (replicate g.row.MARKS no_note) =
-          rw length-replicate (omega (arith, loaded.ensures.words.count, c.requires.marks)) in
+          rw length-replicate (omega (arith, loaded.ensures.loads.words.count, c.requires.marks)) in
           c.put_listing.ensures.result_after _ _ (held h ok _ h.stands) runs (length-take-le _ _ noted ∙ rw (reworded_size _ _, h.words))
           (held_constants h);
       anyway = c.put_listing.ensures.anyway;

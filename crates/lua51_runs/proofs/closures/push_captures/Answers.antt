@@ -1,5 +1,5 @@
 -- One turn writes the first of the captures that are left. Assumes nothing.
-use Rattle.std.proofs.Common.{◌≡◌, ◌+◌, ◌∙◌, length, min, arith}
+use Rattle.std.proofs.Common.{◌≡◌, ◌+◌, ◌∙◌, length, min, arith, rules}
 use Rattle.std.proofs.lemmas.List.{take_rest}
 use Rattle.lua51_instruction.specs.Proto.{word}
 use Rattle.ast.proofs.Written.{turned, done}
@@ -18,4 +18,6 @@ loop-k-preserved c =
 
 pub returns : goal.returns
 returns c =
-    λ p ws. done (c.loop-k.invariant p ws) (captures_done p _ _ (omega arith))
+    λ p ws.
+    let all = done (c.loop-k.invariant p ws) (captures_done p _ _ (omega arith)) in
+    search (rules, all.same, all.added)

@@ -8,4 +8,4 @@ use Rattle.lua51_runs.proofs.closures.push_captures.Given as goal
 
 abbrev pub invariant-loop-k : goal.invariant-loop-k
 invariant-loop-k l =
-    (p : Proto) → p.words ≡ l.words → Left l.initial.run l.run (exprs (captures p l.i l.count)) (exprs (captures p (l.i + l.k) (l.count - l.k)))
+    (p : Proto) → p.words ≡ l.words → Left l.initial.own l.own (exprs (captures p l.i l.count)) (exprs (captures p (l.i + l.k) (l.count - l.k)))

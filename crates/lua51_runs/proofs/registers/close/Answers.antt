@@ -1,5 +1,5 @@
 -- One turn writes the first of the registers that are left. Assumes nothing.
-use Rattle.std.proofs.Common.{◌-◌, arith}
+use Rattle.std.proofs.Common.{◌-◌, arith, rules}
 use Rattle.basics.proofs.Range.{over_length}
 use Rattle.ast.specs.Statement.{run}
 use Rattle.ast.proofs.Written.{then, turned, done}
@@ -13,5 +13,6 @@ pub returns : goal.returns
 unfolding run
 returns c =
     let a = c.args in
+    let behind = done c.loop-register.invariant (range_done _ _ (omega arith)) in
     rw (over_length (λ r. r) a.first (a.stack - a.first))
-    (then (rw (c.from.ensures, c.saturating_sub-count.ensures) at c.push_all.ensures) (done c.loop-register.invariant (range_done _ _ (omega arith))))
+    (then (rw (c.from.ensures, c.saturating_sub-count.ensures) at c.push_all.ensures) (search (rules, behind.same, behind.added)))

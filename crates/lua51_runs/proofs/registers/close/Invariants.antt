@@ -6,4 +6,4 @@ use Rattle.lua51_runs.proofs.registers.close.Given as goal
 
 abbrev pub invariant-loop-register : goal.invariant-loop-register
 invariant-loop-register l =
-    Left l.initial.run l.run (over only l.first (l.stack - l.first)) (over only l.register (l.stack - l.register))
+    Left l.initial.own l.own (over only l.first (l.stack - l.first)) (over only l.register (l.stack - l.register))

@@ -7,4 +7,4 @@ use Rattle.lua51_runs.proofs.registers.push_concatenated.Given as goal
 
 abbrev pub invariant-loop-register : goal.invariant-loop-register
 invariant-loop-register l =
-    Left l.initial.run l.run (expr (concatenated l.fn.first l.more)) (expr (concatenated l.register (l.last - l.register)))
+    Left l.initial.own l.own (expr (concatenated l.fn.first l.more)) (expr (concatenated l.register (l.last - l.register)))
