@@ -109,9 +109,9 @@ module _ (bytes out : List ℕ) {e e' : Output} (empty : out_of e ≡ output [] 
       rw (lt-leb (length bytes) (length out) h, count)
 
   -- in another they were printed
-  pub whole_fits : {o o' : Output} → e'.at ≤ length out → length out < largest_usize → out_of o ≡ output out 0 → Puts o o' bytes
+  pub whole_fits : {o o' : Output} → e'.at ≤ length out → length out < largest_usize → Puts o o' bytes → out_of o ≡ output out 0
       → output o'.bytes.now e'.at ≡ printed true out bytes
-  whole_fits {o' = o'} roomy few start p =
+  whole_fits {o' = o'} roomy few p start =
       let fits : length bytes ≤ length out = omega (arith, count) in
       let stored = puts_from start p ∙ puts_fit out bytes fits (omega arith) in
       let same : e'.at ≡ o'.at = omega (arith, count, ap (λ (o : Out). o.at) stored) in

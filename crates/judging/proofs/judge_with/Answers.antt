@@ -1,4 +1,5 @@
--- `judge_with`. The loop's invariant: the judgement of the functions that are left is the chunk's. Assumes nothing.
+-- `judge_with`. The loop's invariant: the judgement of the functions that are left is the chunk's. That it is function f that is checked
+-- is searched for, so that another wording of its number serves. Assumes nothing.
 use mathlib.Core.Path.{sym, ap, ◌∙◌}
 use native.Mathlib.Omega.{arith}
 use Rattle.std.proofs.Common.{rules}
@@ -21,7 +22,7 @@ loop-f-preserved g c =
     let a = c.args in
     let s = a.chunk.bytes.now in
     turn_passed (word_by a.inverse.now) s (walk s).places a.chunk.functions.now.count l.f-counter c.loop-f-test.true
-    (λ fault x k. search rules) _ c.in_ok-map_err.was c.check_function.result c.check_function.ensures c.map_err.ensures.cases
+    (λ fault x k. search rules) _ c.in_ok-map_err.was c.check_function.result (search rules) c.map_err.ensures.cases
     ∙ l.invariant
 
 pub returns-in_err-map_err : goal.returns-in_err-map_err
@@ -32,7 +33,7 @@ returns-in_err-map_err g c =
     let r = err_from_is_err_and c.from_residual.result c.from_residual.ensures.1 in
     rw (r.1, r.2)
     (turn_refused (word_by a.inverse.now) s (walk s).places a.chunk.functions.now.count l.f-counter c.loop-f-test.true
-    (λ fault x k. search rules) _ c.in_err-map_err.was c.check_function.result c.check_function.ensures c.map_err.ensures.cases
+    (λ fault x k. search rules) _ c.in_err-map_err.was c.check_function.result (search rules) c.map_err.ensures.cases
     ∙ l.invariant)
 
 pub returns : goal.returns

@@ -1,4 +1,5 @@
--- `put_whole`: the listing is counted, and printed where the output is long enough. Assumes nothing.
+-- `put_whole`: the listing is counted, and printed where the output is long enough. That it is printed from the output's start is searched
+-- for, so that another wording of that place serves. Assumes nothing.
 use Prim.Native.Nat.{◌<◌}
 use lib.ListN.{length}
 use Rattle.lines.specs.Out.{largest_usize}
@@ -20,5 +21,5 @@ returns-clause-result_after c =
     let stored = c.put_loaded-2.ensures.result_after p vs draws (search rules) read in
     let whole =
     whole_fits _ out c.new-counted.ensures.at_start (c.put_loaded.ensures.result_after p vs draws roomy read) c.if-out-length.false few
-    c.new-stored.ensures.at_start stored in
+    stored (search rules) in
     search (rules, whole, stored.same)
