@@ -1,5 +1,5 @@
 -- `judge_with`. The loop's invariant: the judgement of the functions that are left is the chunk's. That it is function f that is checked
--- is searched for: `f * 1` for its number is proved too. Assumes nothing.
+-- is searched for: with `f * 1` in its place the function is proved too. Assumes nothing.
 use mathlib.Core.Path.{sym, ap, ◌∙◌}
 use native.Mathlib.Omega.{arith}
 use Rattle.std.proofs.Common.{rules}

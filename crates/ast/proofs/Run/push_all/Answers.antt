@@ -1,5 +1,5 @@
--- One turn writes the first of the numbers that are left. The numbers gone over are not named here: a slice of those given
--- that holds all of them is proved too (`take_all`). Assumes nothing.
+-- One turn writes the first of the numbers that are left. The answers do not name the numbers gone over: with
+-- `let numbers = &numbers[0..];` before the loop the function is proved too (`take_all`). Assumes nothing.
 use Rattle.std.proofs.Common.{arith, rules}
 use Rattle.std.proofs.lemmas.List.{drop_more, take_all}
 use lib.ListN.{drop_of_length-le}

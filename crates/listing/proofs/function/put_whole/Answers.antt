@@ -1,5 +1,5 @@
 -- `put_whole`: the listing is counted, and printed where the output is long enough. That it is printed from the output's first byte on is
--- searched for: with `stored.at = 0` behind it, it is proved too. Assumes nothing.
+-- searched for: with `stored.at = 0;` behind `Output::new(out);` the function is proved too. Assumes nothing.
 use Prim.Native.Nat.{◌<◌}
 use lib.ListN.{length}
 use Rattle.lines.specs.Out.{largest_usize}
